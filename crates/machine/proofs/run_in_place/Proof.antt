@@ -1,0 +1,60 @@
+-- `run_in_place`: a refusal leaves all as it came; otherwise the loop's run, whose place and budget fit.
+-- Assumes nothing.
+use mathlib.Core.Path.{_∙_, sym}
+use Rattle.machine.proofs.Entries.{fine-words, left-at, place-at}
+use Rattle.machine.specs.Entry.{runEntry}
+use borrow.Author.Needs.{needs}
+use Rattle.machine.proofs.run_in_place.Statement.{statement}
+use Rattle.machine.proofs.run_in_place.Tie as tie
+
+check-sizes-requires : tie.Need-check-sizes-requires
+check-sizes-requires c κs = search needs
+
+enum-told : tie.Need-enum-told
+enum-told c = search needs
+
+enum-told-2 : tie.Need-enum-told-2
+enum-told-2 c = search needs
+
+enum-told-3 : tie.Need-enum-told-3
+enum-told-3 c = search needs
+
+proceed-requires : tie.Need-proceed-requires
+proceed-requires c κs = fine-words _ _ (sym (c .before .before .before .before .before .check-sizes .ensures) ∙ c .before .before .before .enum-told3 .given .1)
+
+cast-place : tie.Need-cast-place
+cast-place c = record { fits = place-at _ _ _ _ _ _ (fine-words _ _ (sym (c .before .before .before .before .before .before .before .before .check-sizes .ensures) ∙ c .before .before .before .before .before .before .enum-told3 .given .1)) (search needs) (c .before .before .proceed .ensures) }
+
+sub-t15 : tie.Need-sub-t15
+sub-t15 c = left-at _ _ _ _ _ _ (c .before .before .proceed .ensures)
+
+returns : tie.Need-returns
+unfolding runEntry
+returns c = rw (← c .before .before .check-sizes .ensures, c .enum-told .given .1)
+
+returns-2 : tie.Need-returns-2
+unfolding runEntry
+returns-2 c = rw (← c .before .before .check-sizes .ensures, c .enum-told2 .given .1)
+
+same-length : tie.Need-same-length
+same-length c = search needs
+
+returns-3 : tie.Need-returns-3
+unfolding runEntry
+returns-3 c = rw (← c .before .before .before .before .before .before .before .before .check-sizes .ensures, c .before .before .before .before .before .before .enum-told3 .given .1, ← c .before .before .proceed .ensures)
+
+pub run-in-place-spec : {M : Type 1} → statement M
+run-in-place-spec =
+    tie.close
+    (tie.spec
+    check-sizes-requires
+    enum-told
+    enum-told-2
+    enum-told-3
+    proceed-requires
+    cast-place
+    sub-t15
+    returns
+    returns-2
+    same-length
+    returns-3)

@@ -1,0 +1,225 @@
+// The machine of source document 000: one step, and a run under a budget, over lent code and memory.
+mod operation;
+
+ghost use mathlib.Core.Path.{_≡_};
+ghost use Prim.Native.Nat.{_≤_};
+ghost use lib.ListN.{length};
+ghost use Rattle.machine.specs.Step.{did, stepOf};
+ghost use Rattle.machine.specs.Run.{ran, runOf};
+ghost use Rattle.machine.specs.Entry.{shown, stateOf, sizesOf, runSaid, stepSaid, runEntry, stepEntry};
+
+// The place and the 64 registers.
+pub struct State {
+    pub place: u32,
+    pub registers: [u32; 64],
+}
+
+// What one instruction leads to.
+pub enum Next {
+    Go(usize),
+    Halt,
+    Fault(u32),
+}
+
+// How a run ends.
+pub enum Ending {
+    Halted,
+    Faulted(u32),
+    Unfinished,
+}
+
+// An ending, with the budget that is left and the place.
+struct Ended {
+    ending: Ending,
+    left: u32,
+    place: usize,
+}
+
+// Whether the code and the memory are of sizes that are taken.
+enum Sizes {
+    Fine,
+    CodeWords,
+    MemoryCells,
+}
+
+// What a run answers: its ending and the steps taken, or a refusal.
+pub enum RunAnswer {
+    Ended(Ending, u32),
+    CodeRefused,
+    MemoryRefused,
+}
+
+// A run's answer and the state that is left.
+pub struct Ran {
+    pub answer: RunAnswer,
+    pub state: State,
+}
+
+// What a single step answers.
+pub enum StepAnswer {
+    Went,
+    Halted,
+    Faulted(u32),
+    CodeRefused,
+    MemoryRefused,
+}
+
+// A step's answer and the state that is left.
+pub struct Stepped {
+    pub answer: StepAnswer,
+    pub state: State,
+}
+
+// One step from a place.
+fn advance(code: &[u32], place: usize, g: &mut [u32; 64], m: &mut [u32]) -> Next
+    requires { ⌜ length (now code) ≤ 262144 ⌝ }
+    ensures { λ r. ⌜ did r (now (g .exit)) (now (m .exit)) ≡ stepOf (now (code .entry)) place (now (g .entry)) (now (m .entry)) ⌝ }
+{
+    let count = code.len() / 4;
+    if count <= place {
+        return Next::Fault(1);
+    }
+    let at = place * 4;
+    let op = code[at];
+    let a = code[at + 1];
+    let b = code[at + 2];
+    let c = code[at + 3];
+    if instruction::formed(op, a, b, c) {
+        return operation::perform(count, place, g, m, op, a, b, c);
+    }
+    Next::Fault(2)
+}
+
+// A run from a place under a budget: the one caller of `advance`, so that the step is part of the loop.
+fn proceed(code: &[u32], from: usize, g: &mut [u32; 64], m: &mut [u32], budget: u32) -> Ended
+    requires { ⌜ length (now code) ≤ 262144 ⌝ }
+    ensures { λ r. ⌜ ran (r .ending) (r .left) (r .place) (now (g .exit)) (now (m .exit)) ≡ runOf (now (code .entry)) budget from (now (g .entry)) (now (m .entry)) ⌝ }
+{
+    let mut place = from;
+    let mut left = budget;
+    while 0 < left {
+        let next = advance(code, place, g, m);
+        match next {
+            Next::Go(p) => {
+                place = p;
+                left = left - 1;
+            }
+            Next::Halt => {
+                return Ended {
+                    ending: Ending::Halted,
+                    left: left - 1,
+                    place: place,
+                };
+            }
+            Next::Fault(f) => {
+                return Ended {
+                    ending: Ending::Faulted(f),
+                    left: left,
+                    place: place,
+                };
+            }
+        }
+    }
+    Ended {
+        ending: Ending::Unfinished,
+        left: 0,
+        place: place,
+    }
+}
+
+// Whether code of so many words and memory of so many cells are taken.
+fn check_sizes(words: usize, cells: usize) -> Sizes
+    ensures { λ r. ⌜ r ≡ sizesOf words cells ⌝ }
+{
+    if words % 4 != 0 {
+        return Sizes::CodeWords;
+    }
+    if 262144 < words {
+        return Sizes::CodeWords;
+    }
+    if 65536 < cells {
+        return Sizes::MemoryCells;
+    }
+    Sizes::Fine
+}
+
+// A run from the place and the registers handed in, which are left where they lie.
+pub fn run_in_place(
+    code: &[u32],
+    memory: &mut [u32],
+    place: &mut u32,
+    registers: &mut [u32; 64],
+    budget: u32,
+) -> RunAnswer
+    ensures { λ r. ⌜ shown (runSaid r) (stateOf (now (place .exit)) (now (registers .exit))) (now (memory .exit)) ≡ runEntry (now (code .entry)) (now (memory .entry)) (stateOf (now (place .entry)) (now (registers .entry))) budget ⌝ }
+{
+    let checked = check_sizes(code.len(), memory.len());
+    match checked {
+        Sizes::CodeWords => RunAnswer::CodeRefused,
+        Sizes::MemoryCells => RunAnswer::MemoryRefused,
+        Sizes::Fine => {
+            let from = *place as usize;
+            let e = proceed(code, from, registers, memory, budget);
+            let ending = e.ending;
+            let left = e.left;
+            let to = e.place;
+            *place = to as u32;
+            RunAnswer::Ended(ending, budget - left)
+        }
+    }
+}
+
+// A single step from the place and the registers handed in: a run under the budget 1.
+pub fn step_in_place(
+    code: &[u32],
+    memory: &mut [u32],
+    place: &mut u32,
+    registers: &mut [u32; 64],
+) -> StepAnswer
+    ensures { λ r. ⌜ shown (stepSaid r) (stateOf (now (place .exit)) (now (registers .exit))) (now (memory .exit)) ≡ stepEntry (now (code .entry)) (now (memory .entry)) (stateOf (now (place .entry)) (now (registers .entry))) ⌝ }
+{
+    let answer = run_in_place(code, memory, place, registers, 1);
+    match answer {
+        RunAnswer::CodeRefused => StepAnswer::CodeRefused,
+        RunAnswer::MemoryRefused => StepAnswer::MemoryRefused,
+        RunAnswer::Ended(ending, steps) => match ending {
+            Ending::Halted => StepAnswer::Halted,
+            Ending::Faulted(f) => StepAnswer::Faulted(f),
+            Ending::Unfinished => StepAnswer::Went,
+        },
+    }
+}
+
+// A run of the code from the state handed in, under a budget.
+pub fn run(code: &[u32], memory: &mut [u32], state: State, budget: u32) -> Ran
+    ensures { λ r. ⌜ shown (runSaid (r .answer)) (r .state) (now (memory .exit)) ≡ runEntry (now (code .entry)) (now (memory .entry)) state budget ⌝ }
+{
+    let mut place = state.place;
+    let mut registers = state.registers;
+    let answer = run_in_place(code, memory, &mut place, &mut registers, budget);
+    let after = State {
+        place: place,
+        registers: registers,
+    };
+    Ran {
+        answer: answer,
+        state: after,
+    }
+}
+
+// A single step of the code from the state handed in.
+pub fn step(code: &[u32], memory: &mut [u32], state: State) -> Stepped
+    ensures { λ r. ⌜ shown (stepSaid (r .answer)) (r .state) (now (memory .exit)) ≡ stepEntry (now (code .entry)) (now (memory .entry)) state ⌝ }
+{
+    let mut place = state.place;
+    let mut registers = state.registers;
+    let answer = step_in_place(code, memory, &mut place, &mut registers);
+    let after = State {
+        place: place,
+        registers: registers,
+    };
+    Stepped {
+        answer: answer,
+        state: after,
+    }
+}

@@ -1,0 +1,210 @@
+// One instruction, done on the registers and the memory where they lie.
+use crate::Next;
+use instruction::ADD;
+use instruction::ADDI;
+use instruction::BEQ;
+use instruction::BNE;
+use instruction::HALT;
+use instruction::JMP;
+use instruction::LOAD;
+use instruction::MUL;
+use instruction::NOP;
+use instruction::SLT;
+use instruction::STORE;
+use instruction::SUB;
+ghost use mathlib.Core.Path.{_≡_};
+ghost use mathlib.Core.Bool.{true, cond, not};
+ghost use Prim.Native.Nat.{suc, _<_};
+ghost use lib.Dec.{eqb};
+ghost use Rattle.word.specs.Word.{sumOf, differenceOf, productOf, lessOf};
+ghost use Rattle.instruction.specs.Instruction.{ins, formed};
+ghost use Rattle.machine.specs.Step.{did, readOf, wroteNext, wroteRegisters, cellAt, loads, stores, jumpsTo, branches, flagOf, perform as performOf};
+
+// What register r reads as.
+fn read(g: &[u32; 64], r: u32) -> u32
+    requires { ⌜ r < 64 ⌝ }
+    ensures { λ v. ⌜ v ≡ readOf (now (g .entry)) r ⌝ }
+{
+    if r == 0 {
+        return 0;
+    }
+    let i = r as usize;
+    g[i]
+}
+
+// Writes v to register a, and goes on.
+fn write(g: &mut [u32; 64], place: usize, a: u32, v: u32) -> Next
+    requires { ⌜ (a < 64) × (place < 65536) ⌝ }
+    ensures { λ r. ⌜ (r ≡ wroteNext place a) × (now (g .exit) ≡ wroteRegisters a v (now (g .entry))) ⌝ }
+{
+    if a == 0 {
+        return Next::Fault(3);
+    }
+    let i = a as usize;
+    g[i] = v;
+    Next::Go(place + 1)
+}
+
+// A jump that is taken, in a code of count instructions.
+fn jump(count: usize, l: u32) -> Next
+    ensures { λ r. ⌜ r ≡ jumpsTo count l ⌝ }
+{
+    let to = l as usize;
+    if to < count {
+        Next::Go(to)
+    } else {
+        Next::Fault(5)
+    }
+}
+
+// A branch: a jump where it is taken.
+fn branch(taken: bool, count: usize, place: usize, l: u32) -> Next
+    requires { ⌜ place < 65536 ⌝ }
+    ensures { λ r. ⌜ r ≡ branches taken count place l ⌝ }
+{
+    if taken {
+        return jump(count, l);
+    }
+    Next::Go(place + 1)
+}
+
+// 1 for true, 0 for false.
+fn flag(t: bool) -> u32
+    ensures { λ r. ⌜ r ≡ flagOf t ⌝ }
+{
+    if t { 1 } else { 0 }
+}
+
+fn add(g: &mut [u32; 64], place: usize, a: u32, b: u32, c: u32) -> Next
+    requires { ⌜ (a < 64) × (b < 64) × (c < 64) × (place < 65536) ⌝ }
+    ensures { λ r. ⌜ (r ≡ wroteNext place a) × (now (g .exit) ≡ wroteRegisters a (sumOf (readOf (now (g .entry)) b) (readOf (now (g .entry)) c)) (now (g .entry))) ⌝ }
+{
+    let x = read(g, b);
+    let y = read(g, c);
+    write(g, place, a, word::sum(x, y))
+}
+
+fn addi(g: &mut [u32; 64], place: usize, a: u32, n: u32, c: u32) -> Next
+    requires { ⌜ (a < 64) × (c < 64) × (place < 65536) ⌝ }
+    ensures { λ r. ⌜ (r ≡ wroteNext place a) × (now (g .exit) ≡ wroteRegisters a (sumOf n (readOf (now (g .entry)) c)) (now (g .entry))) ⌝ }
+{
+    let y = read(g, c);
+    write(g, place, a, word::sum(n, y))
+}
+
+fn sub(g: &mut [u32; 64], place: usize, a: u32, b: u32, c: u32) -> Next
+    requires { ⌜ (a < 64) × (b < 64) × (c < 64) × (place < 65536) ⌝ }
+    ensures { λ r. ⌜ (r ≡ wroteNext place a) × (now (g .exit) ≡ wroteRegisters a (differenceOf (readOf (now (g .entry)) b) (readOf (now (g .entry)) c)) (now (g .entry))) ⌝ }
+{
+    let x = read(g, b);
+    let y = read(g, c);
+    write(g, place, a, word::difference(x, y))
+}
+
+fn mul(g: &mut [u32; 64], place: usize, a: u32, b: u32, c: u32) -> Next
+    requires { ⌜ (a < 64) × (b < 64) × (c < 64) × (place < 65536) ⌝ }
+    ensures { λ r. ⌜ (r ≡ wroteNext place a) × (now (g .exit) ≡ wroteRegisters a (productOf (readOf (now (g .entry)) b) (readOf (now (g .entry)) c)) (now (g .entry))) ⌝ }
+{
+    let x = read(g, b);
+    let y = read(g, c);
+    write(g, place, a, word::product(x, y))
+}
+
+fn slt(g: &mut [u32; 64], place: usize, a: u32, b: u32, c: u32) -> Next
+    requires { ⌜ (a < 64) × (b < 64) × (c < 64) × (place < 65536) ⌝ }
+    ensures { λ r. ⌜ (r ≡ wroteNext place a) × (now (g .exit) ≡ wroteRegisters a (flagOf (lessOf (readOf (now (g .entry)) b) (readOf (now (g .entry)) c))) (now (g .entry))) ⌝ }
+{
+    let x = read(g, b);
+    let y = read(g, c);
+    write(g, place, a, flag(word::less(x, y)))
+}
+
+// A load whose address is outside memory: the write to $0 is checked first.
+fn missed(a: u32) -> Next
+    ensures { λ r. ⌜ r ≡ cond (eqb a 0) (Next.Fault 3) (Next.Fault 4) ⌝ }
+{
+    if a == 0 {
+        Next::Fault(3)
+    } else {
+        Next::Fault(4)
+    }
+}
+
+fn load(g: &mut [u32; 64], m: &[u32], place: usize, a: u32, b: u32, i: u32) -> Next
+    requires { ⌜ (a < 64) × (b < 64) × (i < 64) × (place < 65536) ⌝ }
+    ensures { λ r. ⌜ did r (now (g .exit)) (now (m .entry)) ≡ loads place a (cellAt (now (g .entry)) (now (m .entry)) b i) (now (g .entry)) (now (m .entry)) ⌝ }
+{
+    let x = read(g, b);
+    let y = read(g, i);
+    let cell = word::cell_at(x, y, m.len());
+    match cell {
+        word::Cell::At(k) => write(g, place, a, m[k]),
+        word::Cell::Nowhere => missed(a),
+    }
+}
+
+fn store(g: &[u32; 64], m: &mut [u32], place: usize, b: u32, i: u32, a: u32) -> Next
+    requires { ⌜ (a < 64) × (b < 64) × (i < 64) × (place < 65536) ⌝ }
+    ensures { λ r. ⌜ did r (now (g .entry)) (now (m .exit)) ≡ stores place (readOf (now (g .entry)) a) (cellAt (now (g .entry)) (now (m .entry)) b i) (now (g .entry)) (now (m .entry)) ⌝ }
+{
+    let x = read(g, b);
+    let y = read(g, i);
+    let v = read(g, a);
+    let cell = word::cell_at(x, y, m.len());
+    match cell {
+        word::Cell::At(k) => {
+            m[k] = v;
+            Next::Go(place + 1)
+        }
+        word::Cell::Nowhere => Next::Fault(4),
+    }
+}
+
+fn bne(g: &[u32; 64], count: usize, place: usize, a: u32, b: u32, l: u32) -> Next
+    requires { ⌜ (a < 64) × (b < 64) × (place < 65536) ⌝ }
+    ensures { λ r. ⌜ r ≡ branches (not (eqb (readOf (now (g .entry)) a) (readOf (now (g .entry)) b))) count place l ⌝ }
+{
+    let x = read(g, a);
+    let y = read(g, b);
+    branch(x != y, count, place, l)
+}
+
+fn beq(g: &[u32; 64], count: usize, place: usize, a: u32, b: u32, l: u32) -> Next
+    requires { ⌜ (a < 64) × (b < 64) × (place < 65536) ⌝ }
+    ensures { λ r. ⌜ r ≡ branches (eqb (readOf (now (g .entry)) a) (readOf (now (g .entry)) b)) count place l ⌝ }
+{
+    let x = read(g, a);
+    let y = read(g, b);
+    branch(x == y, count, place, l)
+}
+
+// The instruction op a b c, at a place of a code of count instructions.
+pub(crate) fn perform(
+    count: usize,
+    place: usize,
+    g: &mut [u32; 64],
+    m: &mut [u32],
+    op: u32,
+    a: u32,
+    b: u32,
+    c: u32,
+) -> Next
+    requires { ⌜ (formed (ins op a b c) ≡ true) × (place < 65536) ⌝ }
+    ensures { λ r. ⌜ did r (now (g .exit)) (now (m .exit)) ≡ performOf count place (now (g .entry)) (now (m .entry)) (ins op a b c) ⌝ }
+{
+    match op {
+        HALT => Next::Halt,
+        NOP => Next::Go(place + 1),
+        ADD => add(g, place, a, b, c),
+        ADDI => addi(g, place, a, b, c),
+        SUB => sub(g, place, a, b, c),
+        MUL => mul(g, place, a, b, c),
+        LOAD => load(g, m, place, a, b, c),
+        STORE => store(g, m, place, a, b, c),
+        JMP => jump(count, a),
+        BNE => bne(g, count, place, a, b, c),
+        BEQ => beq(g, count, place, a, b, c),
+        SLT => slt(g, place, a, b, c),
+        _ => Next::Fault(2),
+    }
+}

@@ -1,0 +1,4 @@
+pub mod Biased
+pub mod Bound
+pub mod Wraps
+pub mod Exact
