@@ -1,0 +1,12 @@
+pub mod Numbers
+pub mod Reading
+pub mod Pools
+pub mod Sizes
+pub mod Emitting
+pub mod Constructs
+pub mod Fitting
+pub mod Bindings
+pub mod Calls
+pub mod Bound
+pub mod Answers
+pub mod Ready

@@ -1,0 +1,24 @@
+use Rattle.compiler.proofs.Bindings.{binding-constant, stored}
+use Rattle.compiler.specs.Compile.{sizeNamed}
+use mathlib.Core.Path.{sym, ap}
+use borrow.Author.Needs.{needs}
+use Rattle.compiler.proofs.size.size_name.Statement.{statement}
+use Rattle.compiler.proofs.size.size_name.Tie as tie
+
+mul-if1 : tie.Need-mul-if1
+mul-if1 c = search needs
+
+mul-if1-2 : tie.Need-mul-if1-2
+mul-if1-2 c = search needs
+
+shared-slice-read-if1 : tie.Need-shared-slice-read-if1
+shared-slice-read-if1 c = search needs
+
+returns : tie.Need-returns
+returns c = sym (ap sizeNamed (binding-constant _ _ (c .if1 .taken)))
+
+returns-2 : tie.Need-returns-2
+returns-2 c = sym (stored _ _ (c .if1 .left) .size)
+
+pub size-name-spec : {M : Type 1} → statement M
+size-name-spec = tie.close (tie.spec mul-if1 mul-if1-2 shared-slice-read-if1 returns returns-2)

@@ -1,0 +1,4 @@
+pub mod Pool
+pub mod Compile
+pub mod Answer
+pub mod Inside
