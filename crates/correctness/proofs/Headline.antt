@@ -1,0 +1,55 @@
+-- The headline statements. Each name leads into the contract of `compile`, `step` or `run`.
+-- Assumes nothing.
+use mathlib.Core.Path.{_≡_}
+use mathlib.Core.Logic.{_↔_}
+use mathlib.Core.List.{List}
+use Prim.Native.Nat.{ℕ, _*_, _≤_}
+use lib.ListN.{length, getD, take}
+use Rattle.word.specs.Word.{Words, differenceOf}
+use Rattle.machine.specs.declared.Ending.the-variants.{Halted}
+use Rattle.machine.specs.Entry.{ended, stateOf, runEntry}
+use Rattle.rule.specs.Table.{bindingOf, program}
+use Rattle.rule.specs.Meaning.{ruleMeaning}
+use Rattle.compiler.specs.Pool.{registersOf}
+use Rattle.compiler.specs.Answer.{accepted, compiled, leaves}
+use Rattle.correctness.specs.Demand3.{AsMeant}
+use Rattle.correctness.specs.Halting.{HaltAlike, RuleHaltsSometime, RunHaltsSometime}
+use Rattle.correctness.proofs.Meant.{meant}
+use Rattle.correctness.proofs.HaltsAlike as H
+use Rattle.correctness.proofs.Minutes as M
+use Rattle.correctness.proofs.Minutes.{names, rule}
+
+-- For all tables of words, pools and code buffers that `compile` accepts
+module _ (ds ns : List ℕ) (pool : ℕ) (code : List ℕ) (n c k : ℕ) (wd : Words ds) (wn : Words ns)
+    (said : compiled ds ns pool (length code) ≡ accepted n c k) where
+  -- the code: the first 4 n words of the buffer that `compile` leaves
+  abbrev pub emitted : List ℕ
+  emitted = take (n * 4) (leaves ds ns pool code)
+
+  -- and for all register contents and all memories that a run accepts:
+  module _ (R m : List ℕ) (registers : length R ≡ 64) (cells : length m ≤ 65536) where
+    -- Demand 3. Under every budget the code, run from place 0, ends as the rule's own meaning does: the ending, the steps, every cell of
+    -- memory; and each register outside the pool holds what it held
+    pub demand-3 : (budget : ℕ) → AsMeant (registersOf pool) R budget (ruleMeaning (bindingOf ds) (program ns) m budget) (runEntry emitted m (stateOf 0 R) budget)
+    demand-3 budget = meant ds ns pool code n c k wd wn said R m budget registers cells
+
+    -- So the code halts under some budget exactly when the rule does
+    pub halts-exactly : RuleHaltsSometime (bindingOf ds) (program ns) m ↔ RunHaltsSometime emitted R m
+    halts-exactly = (
+      λ h. (h .0, h .1, h .2, H.halts-alike ds ns pool code n c k wd wn said R m registers cells .run-if-rule (h .0) (h .1) (h .2) (h .3)),
+      λ h. (h .0, h .1, h .2, H.halts-alike ds ns pool code n c k wd wn said R m registers cells .rule-if-run (h .0) (h .1) (h .2) (h .3)),
+    )
+
+    -- under the same budget, after as many steps, with the same memory, and then under every larger budget
+    pub halts-alike : HaltAlike (bindingOf ds) (program ns) emitted R m
+    halts-alike = H.halts-alike ds ns pool code n c k wd wn said R m registers cells
+
+-- The offence of the minutes: x := a - (b - c), however it is compiled, leaves a - (b - c) in x, wrapped, for all a, b, c held in variables
+pub offset-kept : (pool : ℕ) (code : List ℕ) (n c k : ℕ) → compiled names rule pool (length code) ≡ accepted n c k → (R m : List ℕ) → length R ≡ 64
+    → 4 ≤ length m → length m ≤ 65536 → (budget : ℕ) → 11 ≤ budget
+    → (runEntry (take (n * 4) (leaves names rule pool code)) m (stateOf 0 R) budget .said ≡ ended Halted 11)
+    × (getD (runEntry (take (n * 4) (leaves names rule pool code)) m (stateOf 0 R) budget .memory) 0 0
+    ≡ differenceOf (getD m 1 0) (differenceOf (getD m 2 0) (getD m 3 0)))
+offset-kept pool code n c k said R m r low high budget b =
+    let h = M.minutes pool code n c k said R m r low high budget b in
+    (h .0, h .2)
