@@ -11,7 +11,7 @@ use Rattle.compiler.specs.Compile.{leftPool, sizeOp, needExp, sizeExp, n
 use Rattle.compiler.specs.Inside.{Room, Fit, FitCom}
 use Rattle.compiler.proofs.Constructs.{Past, PastCom}
 
-length-without : (F : List ℕ) → length (without F) ≡ length F - 1
+pub length-without : (F : List ℕ) → length (without F) ≡ length F - 1
 length-without [] = refl
 length-without (x ∷ F) = omega arith
 

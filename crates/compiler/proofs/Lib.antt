@@ -10,3 +10,4 @@ pub mod Calls
 pub mod Bound
 pub mod Answers
 pub mod Ready
+pub mod Outcomes

@@ -1,7 +1,7 @@
 -- What an acceptance says: which numbers are returned, that every check passed, and what is left in the buffer.
 -- Assumes nothing.
-use mathlib.Core.Path.{_≡_, refl, _∙_, ap}
-use mathlib.Core.Bool.{Bool, true, false, cond, _&&_}
+use mathlib.Core.Path.{_≡_, refl, sym, _∙_, ap}
+use mathlib.Core.Bool.{Bool, true, false, cond}
 use mathlib.Core.List.{List}
 use Prim.Native.Nat.{ℕ, _+_, _*_, _%_, _≤_}
 use native.Mathlib.Omega.{arith}
@@ -12,8 +12,8 @@ use borrow.Author.Tests.{eqb-true, leb-true}
 use Rattle.instruction.specs.Instruction.{assemble}
 use Rattle.rule.specs.declared.Verdict.{Verdict}
 use Rattle.rule.specs.declared.Verdict.the-variants.{Passes, Refuses}
-use Rattle.rule.specs.Table.{firstCell, bindingOf, declarationRows, declarationLimit, program}
-use Rattle.rule.specs.Check.{_andThen_, nodeWords, declarationWords, declarations, declared, rows, usedOnce}
+use Rattle.rule.specs.Table.{firstCell, bindingOf, declarationRows, program}
+use Rattle.rule.specs.Check.{nodeWords, declarationWords, declarations, declared, rows, usedOnce}
 use Rattle.rule.proofs.Verdicts.{both-pass}
 use Rattle.rule.proofs.Cells.{cells-fit-always}
 use Rattle.compiler.specs.Pool.{registersOf}
@@ -21,7 +21,7 @@ use Rattle.compiler.specs.Compile.{sizeCom, needCom, Tprog}
 use Rattle.compiler.specs.Answer.{Said, accepted, poolBit, enough, roomFor, need, instructions, cells, saidAs, verdict, compiled, bufferAs, leaves}
 use Rattle.compiler.proofs.Sizes.{size-prog, length-assemble}
 use Rattle.compiler.proofs.Answers.{after-passed}
-use Rattle.compiler.proofs.Ready.{Ready, ready}
+use Rattle.compiler.proofs.Ready.{ready}
 use Rattle.correctness.proofs.Frame.{Pool}
 use Rattle.correctness.proofs.Registers.{pool-registers}
 
@@ -88,7 +88,10 @@ module _ (ds ns : List ℕ) (pool : ℕ) (code : List ℕ) (n c k : ℕ) (said :
   unfolding declared
   cells-said = cells-fit-always ds (after-passed (declarationWords (length ds)) (declarations ds) (checks .1) ∙ checks .3)
 
-  -- so few instructions that a run does not refuse them
+  -- the count is that of T_prog's code, and so small that a run does not refuse it
+  pub length-said : length (Tprog (bindingOf ds) (program ns) (registersOf pool)) ≡ n
+  length-said = size-prog (bindingOf ds) (program ns) (registersOf pool) ∙ sym count-said
+
   pub small-said : n * 4 ≤ 262144
   small-said = let h = ready ds ns (checks .0) (checks .4) (checks .5) .small in omega (arith, count-said)
 

@@ -15,7 +15,7 @@ use Rattle.instruction.specs.Instruction.{Instruction, ins, found, fetch, count
 use Rattle.machine.specs.Step.{readOf, perform}
 use Rattle.machine.specs.Run.{runOf}
 use Rattle.rule.specs.Tree.{Exp, Com, skip, assign, assignAt, sequence, choose, while, Binding, base}
-use Rattle.rule.specs.Meaning.{M, _>>_, return, spend, store, elementOf, turns, eval, exec}
+use Rattle.correctness.specs.Meaning.{M, _>>_, return, spend, store, elementOf, turns, eval, exec}
 use Rattle.compiler.specs.Compile.{after, sizeExp, sizeCom, needCom, Texp, Tcom}
 use Rattle.correctness.proofs.Frame.{Pool, Within, keep-refl, keep-set, keep-read, widen, read-set}
 use Rattle.correctness.proofs.Fits.{Fit, base-fit, WordsCom}

@@ -12,7 +12,7 @@ use Rattle.instruction.specs.Instruction.{ins, countOf, addi, load}
 use Rattle.machine.specs.Step.{readOf}
 use Rattle.rule.specs.Tree.{Op, Exp, value, ident, element, binary, negate}
 use Rattle.rule.specs.Tree.{Binding, constant, variable, array, base}
-use Rattle.rule.specs.Meaning.{_>>_, spend, read, elementOf, named, eval}
+use Rattle.correctness.specs.Meaning.{_>>_, spend, read, elementOf, named, eval}
 use Rattle.compiler.specs.Pool.{fresh, without}
 use Rattle.compiler.specs.Compile.{after, sizeOp, sizeNamed, sizeExp, needNamed, needExp, namedCode, loadCode, operatorCode, notCode, Texp}
 use Rattle.correctness.specs.Demand3.{Free}
@@ -22,7 +22,7 @@ use Rattle.correctness.proofs.Sim.{Runs, runs-return, runs-bind, runs-t
 use Rattle.correctness.proofs.Steps.{address-base, address-cell}
 use Rattle.correctness.proofs.Instructions.{runs-addi}
 use Rattle.correctness.proofs.Places.{At, at-exp}
-use Rattle.correctness.proofs.Choice.{Apart, Chosen, chosen, left-chosen}
+use Rattle.correctness.proofs.LeftOperand.{Apart, Chosen, chosen, left-chosen}
 use Rattle.correctness.proofs.Operators.{Holds, operator-runs, not-runs, read-runs}
 
 after-add : (k q : ℕ) → after k q ≡ q + k

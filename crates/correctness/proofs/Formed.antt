@@ -17,7 +17,7 @@ use Rattle.rule.specs.Tree.{Binding, constant, variable, array, base}
 use Rattle.compiler.specs.Pool.{fresh, without}
 use Rattle.compiler.specs.Compile.{operatorCode, notCode, namedCode, loadCode, storeCode, needNamed, sizeExp, sizeCom, needExp, needCom, Texp, Tcom, Tprog}
 use Rattle.correctness.proofs.Frame.{Pool}
-use Rattle.correctness.proofs.Choice.{Chosen, chosen, left-chosen}
+use Rattle.correctness.proofs.LeftOperand.{Chosen, chosen, left-chosen}
 use Rattle.correctness.proofs.Assembled.{AllFormed, append-formed}
 
 -- the three shapes that a formed instruction's words have here, beside those without registers

@@ -11,7 +11,7 @@ use Rattle.machine.specs.Run.{Ran, runOf}
 use Rattle.machine.specs.Entry.{ended, Shown, stateOf, runShown, runEntry}
 use Rattle.machine.proofs.Entries.{run-left}
 use Rattle.rule.specs.Table.{bindingOf, program}
-use Rattle.rule.specs.Meaning.{Outcome, done, fault, out, ruleMeaning}
+use Rattle.correctness.specs.Meaning.{Outcome, done, fault, out, ruleMeaning}
 use Rattle.compiler.specs.Pool.{registersOf}
 use Rattle.compiler.specs.Answer.{accepted, compiled, leaves}
 use Rattle.correctness.specs.Demand3.{endingOf, leftOf, memoryOf, AsMeant}

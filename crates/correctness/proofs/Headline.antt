@@ -9,11 +9,13 @@ use Rattle.word.specs.Word.{Words, differenceOf}
 use Rattle.machine.specs.declared.Ending.the-variants.{Halted}
 use Rattle.machine.specs.Entry.{ended, stateOf, runEntry}
 use Rattle.rule.specs.Table.{bindingOf, program}
-use Rattle.rule.specs.Meaning.{ruleMeaning}
+use Rattle.correctness.specs.Meaning.{ruleMeaning}
 use Rattle.compiler.specs.Pool.{registersOf}
-use Rattle.compiler.specs.Answer.{accepted, compiled, leaves}
+use Rattle.compiler.specs.Answer.{accepted, refused, need, compiled, leaves}
 use Rattle.correctness.specs.Demand3.{AsMeant}
 use Rattle.correctness.specs.Halting.{HaltAlike, RuleHaltsSometime, RunHaltsSometime}
+use Rattle.correctness.specs.Choice.{ChoosesCom, EarlierPass}
+use Rattle.correctness.proofs.Eleven as E
 use Rattle.correctness.proofs.Meant.{meant}
 use Rattle.correctness.proofs.HaltsAlike as H
 use Rattle.correctness.proofs.Minutes as M
@@ -53,3 +55,13 @@ pub offset-kept : (pool : ℕ) (code : List ℕ) (n c k : ℕ) → compiled name
 offset-kept pool code n c k said R m r low high budget b =
     let h = M.minutes pool code n c k said R m r low high budget b in
     (h .0, h .2)
+
+-- Refusal 11, for all tables, pools and buffers: it is given exactly when every check before it passes and no choice of registers by the
+-- scope's rules exists, where a fresh register may be any one left; and it carries the need
+pub eleven-exactly : (ds ns : List ℕ) (pool words : ℕ)
+    → compiled ds ns pool words ≡ refused 11 (need ds ns)
+    ↔ EarlierPass ds ns pool × (ChoosesCom (bindingOf ds) (program ns) (registersOf pool) → ⊥)
+eleven-exactly = E.eleven-exactly
+
+pub eleven-says-need : (ds ns : List ℕ) (pool words k : ℕ) → compiled ds ns pool words ≡ refused 11 k → k ≡ need ds ns
+eleven-says-need = E.eleven-says-need

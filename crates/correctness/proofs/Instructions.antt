@@ -16,7 +16,7 @@ use Rattle.instruction.specs.Instruction.{Instruction, ins, found, fetch, count
 use Rattle.machine.specs.declared.Next.the-variants.{Go}
 use Rattle.machine.specs.Step.{did, readOf, loads, stores, branches, perform, stepOf}
 use Rattle.machine.specs.Run.{runOf}
-use Rattle.rule.specs.Meaning.{out, M, read, readCell, store, storeCell}
+use Rattle.correctness.specs.Meaning.{out, M, read, readCell, store, storeCell}
 use Rattle.correctness.proofs.Frame.{Keep, keep-refl}
 use Rattle.correctness.proofs.Sim.{Sim, comes, faults, ends, Runs, runs-tick}
 use Rattle.correctness.proofs.Steps.{sum-zero, writes-next, loads-nowhere, jumps-next, performs, goes, breaks}

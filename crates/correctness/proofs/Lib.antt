@@ -4,7 +4,7 @@ pub mod Sim
 pub mod Steps
 pub mod Instructions
 pub mod Places
-pub mod Choice
+pub mod LeftOperand
 pub mod Operators
 pub mod Expressions
 pub mod Commands
@@ -18,5 +18,7 @@ pub mod Meant
 pub mod Lasting
 pub mod HaltsAlike
 pub mod Minutes
+pub mod Choosing
+pub mod Eleven
 pub mod Starred
 pub mod Headline

@@ -11,7 +11,7 @@ use Rattle.machine.specs.declared.Ending.{Ending}
 use Rattle.machine.specs.Run.{Ran, runOf}
 use Rattle.machine.specs.Entry.{ended, stateOf, sizesOf, runShown, runEntry}
 use Rattle.rule.specs.Table.{bindingOf, program}
-use Rattle.rule.specs.Meaning.{Outcome, ruleMeaning}
+use Rattle.correctness.specs.Meaning.{Outcome, ruleMeaning}
 use Rattle.compiler.specs.Pool.{registersOf}
 use Rattle.compiler.specs.Answer.{accepted, compiled, leaves}
 use Rattle.correctness.specs.Demand3.{AsMeant}

@@ -13,7 +13,7 @@ use Rattle.word.specs.declared.Cell.the-variants.{At}
 use Rattle.machine.specs.declared.Ending.the-variants.{Halted}
 use Rattle.machine.specs.Entry.{ended, Shown, stateOf, runEntry}
 use Rattle.rule.specs.Table.{firstCell, bindingOf, built, entry, expAt, comAt, program}
-use Rattle.rule.specs.Meaning.{eval, exec, ruleMeaning}
+use Rattle.correctness.specs.Meaning.{eval, exec, ruleMeaning}
 use Rattle.compiler.specs.Compile.{sizeExp, sizeCom}
 use Rattle.compiler.specs.Answer.{accepted, compiled, leaves}
 use Rattle.correctness.specs.Halting.{RuleHalts, RunHalts}

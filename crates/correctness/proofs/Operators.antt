@@ -12,14 +12,14 @@ use Rattle.word.specs.Word.{Word, sumOf, differenceOf, productOf, lessOf, addre
 use Rattle.instruction.specs.Instruction.{ins, found, fetch, countOf, addi, load}
 use Rattle.machine.specs.Step.{readOf, perform}
 use Rattle.rule.specs.Tree.{Op, plus, minus, times, less, equal, both, either}
-use Rattle.rule.specs.Meaning.{_>>_, return, spend, read, flag, steps, result}
+use Rattle.correctness.specs.Meaning.{_>>_, return, spend, read, flag, steps, result}
 use Rattle.compiler.specs.Compile.{after, sizeOp, operatorCode, notCode}
 use Rattle.correctness.proofs.Frame.{Within, keep-set, keep-read, widen, read-set}
 use Rattle.correctness.proofs.Sim.{Runs, runs-return}
 use Rattle.correctness.proofs.Steps.{writes-next}
 use Rattle.correctness.proofs.Instructions.{runs-next, runs-addi, runs-jump, beq-taken, beq-passed, bne-taken, bne-passed, runs-load}
 use Rattle.correctness.proofs.Places.{At}
-use Rattle.correctness.proofs.Choice.{Apart}
+use Rattle.correctness.proofs.LeftOperand.{Apart}
 
 -- the post of an expression: its value is in the target
 abbrev pub Holds : ℕ → ℕ → List ℕ → Type 0

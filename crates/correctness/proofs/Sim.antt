@@ -7,7 +7,7 @@ use native.Mathlib.Nat.{le-refl, le-trans}
 use native.Mathlib.Omega.{arith}
 use Rattle.machine.specs.declared.Ending.the-variants.{Faulted, Unfinished}
 use Rattle.machine.specs.Run.{ran, runOf}
-use Rattle.rule.specs.Meaning.{Outcome, done, fault, out, M, bind, _>>=_, return}
+use Rattle.correctness.specs.Meaning.{Outcome, done, fault, out, M, bind, _>>=_, return}
 use Rattle.correctness.proofs.Frame.{Keep, Within, keep-refl, keep-trans, widen}
 
 -- The code C is run from the place p, the registers R and the memory m, with b steps left. If the outcome is done, the run comes to q, with

@@ -1,20 +1,22 @@
--- The starred examples of 01-scope.md that concern rules: what the definitions compute to, beside what the paper says.
+-- The starred examples of 01-scope.md, one table and one proof: what the definitions that the contracts cite compute to, beside what the paper says.
+-- The rows on the machine alone come first, from its own table.
 -- Assumes nothing.
 use mathlib.Core.Path.{_≡_, refl}
 use mathlib.Core.List.{List, [], _∷_, _++_}
 use Prim.Native.Nat.{ℕ, _+_, _-_, _*_}
 use lib.ListN.{replicate, take}
-use Rattle.word.specs.Word.{signed, wordOf, sumOf, differenceOf, addressOf, cellOf}
+use Rattle.word.specs.Word.{signed, wordOf, sumOf, differenceOf, productOf, lessOf, addressOf, cellOf}
 use Rattle.instruction.specs.Instruction.{operations, formed, decode, encode, assemble, fetch}
 use Rattle.machine.specs.declared.Ending.{Ending}
 use Rattle.machine.specs.declared.Ending.the-variants.{Halted, Faulted, Unfinished}
 use Rattle.machine.specs.Step.{readOf, perform, tried, stepOf}
 use Rattle.machine.specs.Run.{runOf}
 use Rattle.machine.specs.Entry as Entry
+use Rattle.machine.proofs.Examples as Machine
 use Rattle.machine.specs.Entry.{Shown, stateOf, sizesOf, runEntry, stepEntry}
 use Rattle.rule.specs.Table.{firstCell, bindingOf, built, entry, expAt, comAt, program}
 use Rattle.rule.specs.Check.{lowestFrom, nodeWords, declarationWords, declarations, rowNo, rows, uses, usedOnce}
-use Rattle.rule.specs.Meaning.{Outcome, eval, turns, exec, ruleMeaning}
+use Rattle.correctness.specs.Meaning.{Outcome, eval, turns, exec, ruleMeaning}
 use Rattle.compiler.specs.Pool.{registersFrom, registersOf}
 use Rattle.compiler.specs.Compile.{needExp, needCom, sizeExp, sizeCom, Texp, Tcom, Tprog}
 use Rattle.compiler.specs.Answer as Answer
@@ -123,7 +125,8 @@ lastStep ns pool b =
 
 abbrev computed : List (List ℕ)
 computed =
-    compiles two pool1-2 18
+    Machine.computed
+    ++ (compiles two pool1-2 18
     ∷ ran two pool1-2 0 2
     ∷ ran two pool1-2 0 3
     ∷ ran two pool1-2 0 4
@@ -150,11 +153,12 @@ computed =
     ∷ ran loops pool1-2 1 10
     ∷ means loops 1 5
     ∷ means loops 1 10
-    ∷ []
+    ∷ [])
 
 abbrev expected : List (List ℕ)
 expected =
-    (1 ∷ 4 ∷ 1 ∷ 2 ∷ 3 ∷ 1 ∷ 2 ∷ 0 ∷ 3 ∷ 2 ∷ 0 ∷ 0 ∷ 7 ∷ 2 ∷ 0 ∷ 1 ∷ 0 ∷ 0 ∷ 0 ∷ 0 ∷ 7 ∷ 7 ∷ [])
+    Machine.expected
+    ++ ((1 ∷ 4 ∷ 1 ∷ 2 ∷ 3 ∷ 1 ∷ 2 ∷ 0 ∷ 3 ∷ 2 ∷ 0 ∷ 0 ∷ 7 ∷ 2 ∷ 0 ∷ 1 ∷ 0 ∷ 0 ∷ 0 ∷ 0 ∷ 7 ∷ 7 ∷ [])
     ∷ (99 ∷ 2 ∷ 0 ∷ [])
     ∷ (99 ∷ 3 ∷ 2 ∷ [])
     ∷ (0 ∷ 4 ∷ 2 ∷ [])
@@ -181,8 +185,8 @@ expected =
     ∷ (99 ∷ 10 ∷ 1 ∷ [])
     ∷ (99 ∷ 5 ∷ 1 ∷ [])
     ∷ (99 ∷ 10 ∷ 1 ∷ [])
-    ∷ []
+    ∷ [])
 
 pub starred : computed ≡ expected
-unfolding signed wordOf sumOf differenceOf addressOf cellOf operations formed decode encode assemble fetch readOf perform tried stepOf runOf sizesOf runEntry stepEntry firstCell bindingOf built entry expAt comAt lowestFrom nodeWords declarationWords declarations rowNo rows uses usedOnce eval turns exec ruleMeaning registersFrom registersOf needExp needCom sizeExp sizeCom Texp Tcom Tprog poolBit enough roomFor verdict compiled leaves
+unfolding signed wordOf sumOf differenceOf productOf lessOf addressOf cellOf operations formed decode encode assemble fetch readOf perform tried stepOf runOf sizesOf runEntry stepEntry firstCell bindingOf built entry expAt comAt lowestFrom nodeWords declarationWords declarations rowNo rows uses usedOnce eval turns exec ruleMeaning registersFrom registersOf needExp needCom sizeExp sizeCom Texp Tcom Tprog poolBit enough roomFor verdict compiled leaves
 starred = refl

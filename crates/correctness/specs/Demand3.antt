@@ -7,7 +7,7 @@ use lib.ListN.{getD}
 use Rattle.machine.specs.declared.Ending.{Ending}
 use Rattle.machine.specs.declared.Ending.the-variants.{Halted, Faulted, Unfinished}
 use Rattle.machine.specs.Entry.{ended, Shown}
-use Rattle.rule.specs.Meaning.{Outcome, done, fault, out}
+use Rattle.correctness.specs.Meaning.{Outcome, done, fault, out}
 
 -- k is none of the registers F
 abbrev pub Free : ℕ → List ℕ → Type 0

@@ -6,7 +6,7 @@ use Prim.Native.Nat.{ℕ, _-_, _≤_}
 use Rattle.machine.specs.declared.Ending.the-variants.{Halted}
 use Rattle.machine.specs.Entry.{ended, stateOf, runEntry}
 use Rattle.rule.specs.Tree.{Com, Binding}
-use Rattle.rule.specs.Meaning.{done, ruleMeaning}
+use Rattle.correctness.specs.Meaning.{done, ruleMeaning}
 
 -- the rule c is done under the budget after some steps, with the memory m′
 pub record RuleHalts (ρ : ℕ → Binding) (c : Com) (m : List ℕ) (budget steps : ℕ) (m′ : List ℕ) : Type 0 where

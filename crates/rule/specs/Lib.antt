@@ -2,7 +2,6 @@ pub mod Tree
 pub mod Kind
 pub mod Table
 pub mod Check
-pub mod Meaning
 pub mod Marks
 pub mod Layout
 pub mod Answer

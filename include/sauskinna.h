@@ -1,0 +1,199 @@
+/* sauskinna.h: compiles station rules (IMP tables) to ASM, and runs ASM under a budget. C99 and C++. */
+#ifndef SAUSKINNA_H
+#define SAUSKINNA_H
+
+#include <stddef.h>
+#include <stdint.h>
+
+#ifdef __cplusplus
+extern "C" {
+#endif
+
+/*
+ * Conventions
+ *
+ * Counts    Every length is a count of 32-bit words, never of bytes. A word is
+ *           a signed 32-bit value. Sums, differences and products wrap modulo
+ *           2^32; comparison is signed.
+ * Owner     The caller owns every buffer. The library reads and writes only
+ *           within the lengths given, keeps no pointer and allocates nothing.
+ *           Pointers are aligned as their type asks, not NULL (even where a
+ *           length is 0), and no buffer that is written overlaps another.
+ *           That is all that is asked: any length and any content is taken.
+ * Answer    answer[3] is always written, all three words.
+ * Return    0, or the number of a refusal. A refused call changes nothing but
+ *           the answer: no code word, no cell, no register, not the place.
+ * Threads   There is no state between calls. Calls from several threads need
+ *           no lock as long as their buffers are their own; what is const may
+ *           be shared.
+ * Stack     A rule is compiled by recursion, at most one call per node row.
+ * Time      Compiling takes time in proportion to the rows handed in; a run,
+ *           to its steps.
+ */
+
+/* Limits. */
+#define SAUSKINNA_DECLARATIONS 256  /* declaration rows, two words each */
+#define SAUSKINNA_ROWS 1024         /* node rows, four words each */
+#define SAUSKINNA_CELLS 65536       /* cells of memory, and of all declarations together */
+#define SAUSKINNA_CODE_WORDS 262144 /* code words that run and step take */
+#define SAUSKINNA_REGISTERS 64      /* $0 to $63; $0 reads as 0 */
+
+/*
+ * A code buffer of this many words holds any rule of so many node rows: a row
+ * gives at most four instructions of four words, and the end one more.
+ */
+#define SAUSKINNA_ROOM(rows) (16 * (size_t)(rows) + 4)
+
+/* Declarations: (kind, value). Cells are given out from address 0 in row order. */
+enum sauskinna_declaration {
+    SAUSKINNA_CONSTANT = 1, /* value: the constant */
+    SAUSKINNA_VARIABLE = 2, /* value: 0; one cell */
+    SAUSKINNA_ARRAY = 3     /* value: its cells, 1 to 65,536 */
+};
+
+/*
+ * Nodes: (kind, word, word, word), words that are not used are 0. A name is a
+ * declaration's row number from 0, a child a lower node row. The last row is
+ * the whole rule, a command; every other row is the child of one parent, once.
+ */
+enum sauskinna_node {
+    SAUSKINNA_VALUE = 1,           /* v */
+    SAUSKINNA_IDENTIFIER = 2,      /* name of a constant or variable */
+    SAUSKINNA_ELEMENT = 3,         /* name of an array, index */
+    SAUSKINNA_PLUS = 4,            /* left, right */
+    SAUSKINNA_MINUS = 5,           /* left, right */
+    SAUSKINNA_TIMES = 6,           /* left, right */
+    SAUSKINNA_LESS = 7,            /* left, right */
+    SAUSKINNA_EQUAL = 8,           /* left, right */
+    SAUSKINNA_AND = 9,             /* left, right: both are worked out */
+    SAUSKINNA_OR = 10,             /* left, right: both are worked out */
+    SAUSKINNA_NOT = 11,            /* operand */
+    SAUSKINNA_SKIP = 16,           /* */
+    SAUSKINNA_ASSIGN = 17,         /* name of a variable, value */
+    SAUSKINNA_ASSIGN_ELEMENT = 18, /* name of an array, index, value */
+    SAUSKINNA_SEQUENCE = 19,       /* first, second */
+    SAUSKINNA_IF = 20,             /* test, then, else */
+    SAUSKINNA_WHILE = 21           /* test, body */
+};
+
+/*
+ * Code: (operation, word, word, word), words that are not used are 0. A label
+ * is an instruction's number, from 0; so is a place.
+ */
+enum sauskinna_operation {
+    SAUSKINNA_HALT = 0,
+    SAUSKINNA_NOP = 1,
+    SAUSKINNA_ADD = 2,   /* a b c: $a = $b + $c */
+    SAUSKINNA_ADDI = 3,  /* a N c: $a = N + $c */
+    SAUSKINNA_SUB = 4,   /* a b c: $a = $b - $c */
+    SAUSKINNA_MUL = 5,   /* a b c: $a = $b * $c */
+    SAUSKINNA_LOAD = 6,  /* a b i: $a = memory[$b + $i] */
+    SAUSKINNA_STORE = 7, /* b i a: memory[$b + $i] = $a */
+    SAUSKINNA_JMP = 8,   /* L */
+    SAUSKINNA_BNE = 9,   /* a b L: to L if $a and $b differ */
+    SAUSKINNA_BEQ = 10,  /* a b L: to L if $a and $b are equal */
+    SAUSKINNA_SLT = 11   /* a b c: $a = 1 if $b < $c, else 0 */
+};
+
+/* The first word that step (0, 1, 2) and run (1, 2, 3) answer. */
+enum sauskinna_ending {
+    SAUSKINNA_WENT_ON = 0,
+    SAUSKINNA_HALTED = 1,
+    SAUSKINNA_FAULTED = 2,
+    SAUSKINNA_UNFINISHED = 3
+};
+
+/*
+ * Refusals, in the order in which they are looked for. Declarations and then
+ * node rows are read from row 0; the first bad row decides, and within a row
+ * the lowest number. "Value" is compile's answer[0].
+ *
+ *  no.  given when                                                    value
+ *   1   node words not a multiple of 4, no rows, or above 1,024 rows  0
+ *   2   declaration words odd, or above 256 rows                      0
+ *   3   pool bit 0 set                                                0
+ *   4   a declaration's kind or value is not one of the above         its row
+ *   5   cells pass 65,536 with this row                               its row
+ *   6   unknown node kind, unused word not 0, or child not a lower
+ *       row                                                           its row
+ *   7   a child, or the last row, of the wrong sort (expression for
+ *       command, or the other way round)                              the parent's row, or the last
+ *   8   name is no declaration row                                    its row
+ *   9   name of the wrong kind                                        its row
+ *  10   a row but the last not used exactly once                      lowest such row
+ *  11   too few registers in the pool                                 the registers needed
+ *  12   code buffer too short                                         the instructions needed
+ *  13   run, step: code words not a multiple of 4, or above 262,144   -
+ *  14   run, step: memory above 65,536 cells                          -
+ *
+ * Faults, in the order in which an instruction is looked at. A fault counts no
+ * step and changes nothing: the place stays at the instruction that faulted.
+ *
+ *  no.  given when
+ *   1   the place is outside the code
+ *   2   unknown operation, unused word not 0, or a register number outside 0..63
+ *   3   a result written to $0
+ *   4   a load or store outside memory (base + index, which does not wrap)
+ *   5   a jump that is taken to a label outside the code
+ */
+
+/*
+ * Compiles a rule.
+ *
+ *   declarations, declaration_words   two words a row, 0 to 256 rows
+ *   nodes, node_words                 four words a row, 1 to 1,024 rows
+ *   pool                              bit k set: the code may use $k. Bit 0 is
+ *                                     clear. Registers outside the pool are the
+ *                                     host's: no run of the code changes them.
+ *   code, code_words                  receives the code, four words an
+ *                                     instruction; words beyond it stay as they
+ *                                     are. SAUSKINNA_ROOM(rows) words are enough.
+ *
+ * Accepted: returns 0; answer is the instructions emitted, the cells of memory
+ * that the declarations take, and the registers that the rule needs.
+ * Refused: returns 1 to 12; answer is the refusal's value, 0, 0.
+ */
+uint32_t sauskinna_compile(const int32_t *declarations, size_t declaration_words,
+                           const int32_t *nodes, size_t node_words,
+                           uint64_t pool, int32_t *code, size_t code_words,
+                           uint32_t answer[3]);
+
+/*
+ * Takes one step.
+ *
+ *   code, code_words   four words an instruction, for a compiled rule 4 times
+ *                      compile's answer[0]
+ *   memory, cells      0 to 65,536 cells, used with the values that they hold
+ *   place              the instruction to do, from 0; then the one after it
+ *   registers          $0 to $63. registers[0] is neither read nor changed.
+ *
+ * Returns 0; answer is an ending (0 went on, 1 halted, 2 faulted), the fault's
+ * number or 0, and the steps taken (1, or 0 at a fault). A halt counts as a
+ * step and keeps its place.
+ * Refused: returns 13 or 14; answer is 0, 0, 0.
+ */
+uint32_t sauskinna_step(const int32_t *code, size_t code_words,
+                        int32_t *memory, size_t cells, uint32_t *place,
+                        int32_t registers[64], uint32_t answer[3]);
+
+/*
+ * Takes steps until the code halts or faults, or the budget is spent. A rule
+ * starts at place 0. An unfinished run is resumed by a run with the place,
+ * registers and memory that it left.
+ *
+ *   budget   the steps that may be taken, 0 to 4,294,967,295
+ *
+ * The other arguments are those of sauskinna_step. Returns 0; answer is an
+ * ending (1 halted, 2 faulted, 3 unfinished), the fault's number or 0, and the
+ * steps taken.
+ * Refused: returns 13 or 14; answer is 0, 0, 0.
+ */
+uint32_t sauskinna_run(const int32_t *code, size_t code_words,
+                       int32_t *memory, size_t cells, uint32_t *place,
+                       int32_t registers[64], uint32_t budget, uint32_t answer[3]);
+
+#ifdef __cplusplus
+}
+#endif
+
+#endif
