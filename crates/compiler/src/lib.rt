@@ -1,4 +1,5 @@
 // The compiler: a rule's tables and a pool of registers to code. 01-scope.md; source document 001.
+mod construct;
 mod emission;
 mod need;
 mod node;
@@ -50,7 +51,7 @@ fn generate(
         return CompileAnswer::Refused(12, instructions);
     }
     let end = emission::emit_com(declarations, nodes, bases, row, pool, code, 0);
-    emission::put(code, end, instruction::HALT, 0, 0, 0);
+    construct::put(code, end, instruction::HALT, 0, 0, 0);
     CompileAnswer::Accepted(instructions, cells, need)
 }
 

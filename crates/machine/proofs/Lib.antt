@@ -2,6 +2,7 @@ pub mod Runs
 pub mod Places
 pub mod Entries
 pub mod Lengths
+pub mod Cleared
 pub mod Singly
 pub mod Joined
 pub mod Outcomes

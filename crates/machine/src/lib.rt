@@ -3,7 +3,7 @@ mod operation;
 
 ghost use mathlib.Core.Path.{_≡_};
 ghost use Prim.Native.Nat.{_≤_};
-ghost use lib.ListN.{length};
+ghost use lib.ListN.{length, getD};
 ghost use Rattle.machine.specs.Step.{did, stepOf};
 ghost use Rattle.machine.specs.Run.{ran, runOf};
 ghost use Rattle.machine.specs.Entry.{shown, stateOf, sizesOf, runSaid, stepSaid, runEntry, stepEntry};
@@ -72,7 +72,7 @@ pub struct Stepped {
 
 // One step from a place.
 fn advance(code: &[u32], place: usize, g: &mut [u32; 64], m: &mut [u32]) -> Next
-    requires { ⌜ length (now code) ≤ 262144 ⌝ }
+    requires { ⌜ (length (now code) ≤ 262144) × (getD (now g) 0 0 ≡ 0) ⌝ }
     ensures { λ r. ⌜ did r (now (g .exit)) (now (m .exit)) ≡ stepOf (now (code .entry)) place (now (g .entry)) (now (m .entry)) ⌝ }
 {
     let count = code.len() / 4;
@@ -92,7 +92,7 @@ fn advance(code: &[u32], place: usize, g: &mut [u32; 64], m: &mut [u32]) -> Next
 
 // A run from a place under a budget: the one caller of `advance`, so that the step is part of the loop.
 fn proceed(code: &[u32], from: usize, g: &mut [u32; 64], m: &mut [u32], budget: u32) -> Ended
-    requires { ⌜ length (now code) ≤ 262144 ⌝ }
+    requires { ⌜ (length (now code) ≤ 262144) × (getD (now g) 0 0 ≡ 0) ⌝ }
     ensures { λ r. ⌜ ran (r .ending) (r .left) (r .place) (now (g .exit)) (now (m .exit)) ≡ runOf (now (code .entry)) budget from (now (g .entry)) (now (m .entry)) ⌝ }
 {
     let mut place = from;
@@ -144,6 +144,7 @@ fn check_sizes(words: usize, cells: usize) -> Sizes
 }
 
 // A run from the place and the registers handed in, which are left where they lie.
+// Their place 0 is cleared while the run works on them, so that a read needs no test for $0, and put back after it.
 pub fn run_in_place(
     code: &[u32],
     memory: &mut [u32],
@@ -159,7 +160,10 @@ pub fn run_in_place(
         Sizes::MemoryCells => RunAnswer::MemoryRefused,
         Sizes::Fine => {
             let from = *place as usize;
+            let kept = registers[0];
+            registers[0] = 0;
             let e = proceed(code, from, registers, memory, budget);
+            registers[0] = kept;
             let ending = e.ending;
             let left = e.left;
             let to = e.place;

@@ -16,20 +16,17 @@ ghost use mathlib.Core.Path.{_≡_};
 ghost use mathlib.Core.Bool.{true, cond, not};
 ghost use Prim.Native.Nat.{suc, _<_};
 ghost use lib.Dec.{eqb};
+ghost use lib.ListN.{getD};
 ghost use Rattle.word.specs.Word.{sumOf, differenceOf, productOf, lessOf};
 ghost use Rattle.instruction.specs.Instruction.{ins, formed};
 ghost use Rattle.machine.specs.Step.{did, readOf, wroteNext, wroteRegisters, cellAt, loads, stores, jumpsTo, branches, flagOf, perform as performOf};
 
-// What register r reads as.
+// What register r reads as, where place 0 is cleared.
 fn read(g: &[u32; 64], r: u32) -> u32
-    requires { ⌜ r < 64 ⌝ }
+    requires { ⌜ (r < 64) × (getD (now g) 0 0 ≡ 0) ⌝ }
     ensures { λ v. ⌜ v ≡ readOf (now (g .entry)) r ⌝ }
 {
-    if r == 0 {
-        return 0;
-    }
-    let i = r as usize;
-    g[i]
+    g[r as usize]
 }
 
 // Writes v to register a, and goes on.
@@ -76,7 +73,7 @@ fn flag(t: bool) -> u32
 }
 
 fn add(g: &mut [u32; 64], place: usize, a: u32, b: u32, c: u32) -> Next
-    requires { ⌜ (a < 64) × (b < 64) × (c < 64) × (place < 65536) ⌝ }
+    requires { ⌜ (a < 64) × (b < 64) × (c < 64) × (place < 65536) × (getD (now g) 0 0 ≡ 0) ⌝ }
     ensures { λ r. ⌜ (r ≡ wroteNext place a) × (now (g .exit) ≡ wroteRegisters a (sumOf (readOf (now (g .entry)) b) (readOf (now (g .entry)) c)) (now (g .entry))) ⌝ }
 {
     let x = read(g, b);
@@ -85,7 +82,7 @@ fn add(g: &mut [u32; 64], place: usize, a: u32, b: u32, c: u32) -> Next
 }
 
 fn addi(g: &mut [u32; 64], place: usize, a: u32, n: u32, c: u32) -> Next
-    requires { ⌜ (a < 64) × (c < 64) × (place < 65536) ⌝ }
+    requires { ⌜ (a < 64) × (c < 64) × (place < 65536) × (getD (now g) 0 0 ≡ 0) ⌝ }
     ensures { λ r. ⌜ (r ≡ wroteNext place a) × (now (g .exit) ≡ wroteRegisters a (sumOf n (readOf (now (g .entry)) c)) (now (g .entry))) ⌝ }
 {
     let y = read(g, c);
@@ -93,7 +90,7 @@ fn addi(g: &mut [u32; 64], place: usize, a: u32, n: u32, c: u32) -> Next
 }
 
 fn sub(g: &mut [u32; 64], place: usize, a: u32, b: u32, c: u32) -> Next
-    requires { ⌜ (a < 64) × (b < 64) × (c < 64) × (place < 65536) ⌝ }
+    requires { ⌜ (a < 64) × (b < 64) × (c < 64) × (place < 65536) × (getD (now g) 0 0 ≡ 0) ⌝ }
     ensures { λ r. ⌜ (r ≡ wroteNext place a) × (now (g .exit) ≡ wroteRegisters a (differenceOf (readOf (now (g .entry)) b) (readOf (now (g .entry)) c)) (now (g .entry))) ⌝ }
 {
     let x = read(g, b);
@@ -102,7 +99,7 @@ fn sub(g: &mut [u32; 64], place: usize, a: u32, b: u32, c: u32) -> Next
 }
 
 fn mul(g: &mut [u32; 64], place: usize, a: u32, b: u32, c: u32) -> Next
-    requires { ⌜ (a < 64) × (b < 64) × (c < 64) × (place < 65536) ⌝ }
+    requires { ⌜ (a < 64) × (b < 64) × (c < 64) × (place < 65536) × (getD (now g) 0 0 ≡ 0) ⌝ }
     ensures { λ r. ⌜ (r ≡ wroteNext place a) × (now (g .exit) ≡ wroteRegisters a (productOf (readOf (now (g .entry)) b) (readOf (now (g .entry)) c)) (now (g .entry))) ⌝ }
 {
     let x = read(g, b);
@@ -111,7 +108,7 @@ fn mul(g: &mut [u32; 64], place: usize, a: u32, b: u32, c: u32) -> Next
 }
 
 fn slt(g: &mut [u32; 64], place: usize, a: u32, b: u32, c: u32) -> Next
-    requires { ⌜ (a < 64) × (b < 64) × (c < 64) × (place < 65536) ⌝ }
+    requires { ⌜ (a < 64) × (b < 64) × (c < 64) × (place < 65536) × (getD (now g) 0 0 ≡ 0) ⌝ }
     ensures { λ r. ⌜ (r ≡ wroteNext place a) × (now (g .exit) ≡ wroteRegisters a (flagOf (lessOf (readOf (now (g .entry)) b) (readOf (now (g .entry)) c))) (now (g .entry))) ⌝ }
 {
     let x = read(g, b);
@@ -131,7 +128,7 @@ fn missed(a: u32) -> Next
 }
 
 fn load(g: &mut [u32; 64], m: &[u32], place: usize, a: u32, b: u32, i: u32) -> Next
-    requires { ⌜ (a < 64) × (b < 64) × (i < 64) × (place < 65536) ⌝ }
+    requires { ⌜ (a < 64) × (b < 64) × (i < 64) × (place < 65536) × (getD (now g) 0 0 ≡ 0) ⌝ }
     ensures { λ r. ⌜ did r (now (g .exit)) (now (m .entry)) ≡ loads place a (cellAt (now (g .entry)) (now (m .entry)) b i) (now (g .entry)) (now (m .entry)) ⌝ }
 {
     let x = read(g, b);
@@ -144,7 +141,7 @@ fn load(g: &mut [u32; 64], m: &[u32], place: usize, a: u32, b: u32, i: u32) -> N
 }
 
 fn store(g: &[u32; 64], m: &mut [u32], place: usize, b: u32, i: u32, a: u32) -> Next
-    requires { ⌜ (a < 64) × (b < 64) × (i < 64) × (place < 65536) ⌝ }
+    requires { ⌜ (a < 64) × (b < 64) × (i < 64) × (place < 65536) × (getD (now g) 0 0 ≡ 0) ⌝ }
     ensures { λ r. ⌜ did r (now (g .entry)) (now (m .exit)) ≡ stores place (readOf (now (g .entry)) a) (cellAt (now (g .entry)) (now (m .entry)) b i) (now (g .entry)) (now (m .entry)) ⌝ }
 {
     let x = read(g, b);
@@ -161,7 +158,7 @@ fn store(g: &[u32; 64], m: &mut [u32], place: usize, b: u32, i: u32, a: u32) -> 
 }
 
 fn bne(g: &[u32; 64], count: usize, place: usize, a: u32, b: u32, l: u32) -> Next
-    requires { ⌜ (a < 64) × (b < 64) × (place < 65536) ⌝ }
+    requires { ⌜ (a < 64) × (b < 64) × (place < 65536) × (getD (now g) 0 0 ≡ 0) ⌝ }
     ensures { λ r. ⌜ r ≡ branches (not (eqb (readOf (now (g .entry)) a) (readOf (now (g .entry)) b))) count place l ⌝ }
 {
     let x = read(g, a);
@@ -170,7 +167,7 @@ fn bne(g: &[u32; 64], count: usize, place: usize, a: u32, b: u32, l: u32) -> Nex
 }
 
 fn beq(g: &[u32; 64], count: usize, place: usize, a: u32, b: u32, l: u32) -> Next
-    requires { ⌜ (a < 64) × (b < 64) × (place < 65536) ⌝ }
+    requires { ⌜ (a < 64) × (b < 64) × (place < 65536) × (getD (now g) 0 0 ≡ 0) ⌝ }
     ensures { λ r. ⌜ r ≡ branches (eqb (readOf (now (g .entry)) a) (readOf (now (g .entry)) b)) count place l ⌝ }
 {
     let x = read(g, a);
@@ -189,7 +186,7 @@ pub(crate) fn perform(
     b: u32,
     c: u32,
 ) -> Next
-    requires { ⌜ (formed (ins op a b c) ≡ true) × (place < 65536) ⌝ }
+    requires { ⌜ (formed (ins op a b c) ≡ true) × (place < 65536) × (getD (now g) 0 0 ≡ 0) ⌝ }
     ensures { λ r. ⌜ did r (now (g .exit)) (now (m .exit)) ≡ performOf count place (now (g .entry)) (now (m .entry)) (ins op a b c) ⌝ }
 {
     match op {

@@ -54,7 +54,7 @@ formed-requires : tie.Need-formed-requires
 formed-requires c κs = search needs
 
 perform-requires : tie.Need-perform-requires
-perform-requires c κs = (sym (c .before .before .before .formed .ensures) ∙ c .before .before .if2 .taken, omega (arith, c .before .before .before .before .before .before .before .before .if1 .left, c .before .before .before .before .before .before .before .before .before .before .before .pre))
+perform-requires c κs = (sym (c .before .before .before .formed .ensures) ∙ c .before .before .if2 .taken, omega (arith, c .before .before .before .before .before .before .before .before .if1 .left, c .before .before .before .before .before .before .before .before .before .before .before .pre .0), c .before .before .before .before .before .before .before .before .before .before .before .pre .1)
 
 same-length : tie.Need-same-length
 same-length c = search needs

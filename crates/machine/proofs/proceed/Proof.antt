@@ -3,8 +3,9 @@
 use Prim.Native.Nat.{_≤_}
 use mathlib.Core.Path.{_≡_, refl, _∙_}
 use native.Mathlib.Omega.{arith}
-use lib.ListN.{length}
+use lib.ListN.{length, getD}
 use borrow.Author.Needs.{needs}
+use Rattle.machine.proofs.Cleared.{step-cleared}
 use Rattle.machine.proofs.Runs.{run-go, run-halt, run-fault, run-out}
 use Rattle.machine.specs.Run.{runOf}
 use Rattle.machine.proofs.proceed.Statement.{statement}
@@ -12,16 +13,16 @@ use Rattle.machine.proofs.proceed.Tie as tie
 
 abbrev Inv-loop : tie.InvT-loop
 Inv-loop code from g₀ m₀ budget place₀ left₀ g m place left =
-    (left ≤ budget) × (length m ≡ length m₀) × (runOf code left place g m ≡ runOf code budget from g₀ m₀)
+    (left ≤ budget) × (length m ≡ length m₀) × (runOf code left place g m ≡ runOf code budget from g₀ m₀) × (getD g 0 0 ≡ 0)
 
 abbrev μ-loop : tie.MeasureT-loop
 μ-loop code from g₀ m₀ budget place₀ left₀ g m place left = left
 
 loop-holds : tie.Need-loop-holds Inv-loop μ-loop
-loop-holds c = (omega arith, refl, refl)
+loop-holds c = (omega arith, refl, refl, c .before .before .pre .1)
 
 advance-requires : tie.Need-advance-requires Inv-loop μ-loop
-advance-requires c κs = c .before .before .before .before .before .before .pre
+advance-requires c κs = (c .before .before .before .before .before .before .pre .0, c .before .before .before .loop .inv .3)
 
 enum-known-next : tie.Need-enum-known-next Inv-loop μ-loop
 enum-known-next c = search needs
@@ -33,7 +34,7 @@ loop-less : tie.Need-loop-less Inv-loop μ-loop
 loop-less c = omega arith
 
 loop-again : tie.Need-loop-again Inv-loop μ-loop
-loop-again c = (omega arith, c .before .before .before .before .before .advance .kept .1 .1 .1 .0 ∙ c .before .before .before .before .before .before .before .before .before .loop .inv .1, run-go _ _ _ _ _ _ _ (c .before .before .before .before .before .advance .ensures) _ _ (c .before .before .before .before .before .before .before .before .loop-test .taken) (c .before .next .given .1) ∙ c .before .before .before .before .before .before .before .before .before .loop .inv .2)
+loop-again c = (omega arith, c .before .before .before .before .before .advance .kept .1 .1 .1 .0 ∙ c .before .before .before .before .before .before .before .before .before .loop .inv .1, run-go _ _ _ _ _ _ _ (c .before .before .before .before .before .advance .ensures) _ _ (c .before .before .before .before .before .before .before .before .loop-test .taken) (c .before .next .given .1) ∙ c .before .before .before .before .before .before .before .before .before .loop .inv .2, step-cleared _ _ _ _ _ _ _ (c .before .before .before .before .before .advance .ensures) (c .before .before .before .before .before .before .before .before .before .loop .inv .3))
 
 enum-told : tie.Need-enum-told Inv-loop μ-loop
 enum-told c = search needs

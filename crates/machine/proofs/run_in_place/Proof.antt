@@ -1,8 +1,9 @@
--- `run_in_place`: a refusal leaves all as it came; otherwise the loop's run, whose place and budget fit.
+-- `run_in_place`: a refusal leaves all as it came; otherwise the run over a cleared place 0, put back after it, whose place and budget fit.
 -- Assumes nothing.
-use mathlib.Core.Path.{_∙_, sym}
-use Rattle.machine.proofs.Entries.{fine-words, left-at, place-at}
 use Rattle.machine.specs.Entry.{runEntry}
+use Rattle.machine.proofs.Entries.{fine-words, left-at, place-at}
+use Rattle.machine.proofs.Cleared.{cleared, put-back}
+use mathlib.Core.Path.{_∙_, sym}
 use borrow.Author.Needs.{needs}
 use Rattle.machine.proofs.run_in_place.Statement.{statement}
 use Rattle.machine.proofs.run_in_place.Tie as tie
@@ -19,14 +20,23 @@ enum-told-2 c = search needs
 enum-told-3 : tie.Need-enum-told-3
 enum-told-3 c = search needs
 
+element-copy-out-kept : tie.Need-element-copy-out-kept
+element-copy-out-kept c = search needs
+
+element-write-registers : tie.Need-element-write-registers
+element-write-registers c = search needs
+
 proceed-requires : tie.Need-proceed-requires
-proceed-requires c κs = fine-words _ _ (sym (c .before .before .before .before .before .check-sizes .ensures) ∙ c .before .before .before .enum-told3 .given .1)
+proceed-requires c κs = (fine-words _ _ (sym (c .before .before .before .before .before .before .check-sizes .ensures) ∙ c .before .before .before .before .enum-told3 .given .1), cleared (c .before .before .before .before .before .before .before .before .before .args .registers .now))
+
+element-write-registers-2 : tie.Need-element-write-registers-2
+element-write-registers-2 c = search needs
 
 cast-place : tie.Need-cast-place
-cast-place c = record { fits = place-at _ _ _ _ _ _ (fine-words _ _ (sym (c .before .before .before .before .before .before .before .before .check-sizes .ensures) ∙ c .before .before .before .before .before .before .enum-told3 .given .1)) (search needs) (c .before .before .proceed .ensures) }
+cast-place c = record { fits = place-at _ _ _ _ _ _ (fine-words _ _ (sym (c .before .before .before .before .before .before .before .before .before .check-sizes .ensures) ∙ c .before .before .before .before .before .before .before .enum-told3 .given .1)) (search needs) (c .before .before .proceed .ensures) }
 
-sub-t15 : tie.Need-sub-t15
-sub-t15 c = left-at _ _ _ _ _ _ (c .before .before .proceed .ensures)
+sub-t16 : tie.Need-sub-t16
+sub-t16 c = left-at _ _ _ _ _ _ (c .before .before .proceed .ensures)
 
 returns : tie.Need-returns
 unfolding runEntry
@@ -41,7 +51,7 @@ same-length c = search needs
 
 returns-3 : tie.Need-returns-3
 unfolding runEntry
-returns-3 c = rw (← c .before .before .before .before .before .before .before .before .check-sizes .ensures, c .before .before .before .before .before .before .enum-told3 .given .1, ← c .before .before .proceed .ensures)
+returns-3 c = rw (← c .before .before .before .before .before .before .before .before .before .check-sizes .ensures, c .before .before .before .before .before .before .before .enum-told3 .given .1, ← put-back _ 0 _ _ _ _ _ (c .before .before .proceed .ensures))
 
 pub run-in-place-spec : {M : Type 1} → statement M
 run-in-place-spec =
@@ -51,9 +61,12 @@ run-in-place-spec =
     enum-told
     enum-told-2
     enum-told-3
+    element-copy-out-kept
+    element-write-registers
     proceed-requires
+    element-write-registers-2
     cast-place
-    sub-t15
+    sub-t16
     returns
     returns-2
     same-length

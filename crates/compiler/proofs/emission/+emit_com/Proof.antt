@@ -26,8 +26,8 @@ use Rattle.compiler.proofs.emission.+emit_com.Lts-emit_com as emit-com-
 use Rattle.compiler.proofs.emission.emit_assign.Reads as emit-assign-reads
 use Rattle.compiler.proofs.emission.emit_assign_element.Reads as emit-assign-element-reads
 use Rattle.compiler.proofs.emission.emit_exp.Reads as emit-exp-reads
-use Rattle.compiler.proofs.emission.label.Reads as label-reads
-use Rattle.compiler.proofs.emission.put.Reads as put-reads
+use Rattle.compiler.proofs.construct.label.Reads as label-reads
+use Rattle.compiler.proofs.construct.put.Reads as put-reads
 use Rattle.compiler.proofs.node.link.Reads as link-reads
 use Rattle.compiler.proofs.node.word.Reads as word-reads
 use Rattle.compiler.proofs.pool.cleared.Reads as cleared-reads

@@ -25,11 +25,11 @@ use borrow.Fn.PlainCycle.{Measures, is, falls, and}
 use Rattle.compiler.proofs.emission.emit_exp.Reads as emit-exp
 use Rattle.compiler.proofs.emission.emit_exp.Kinds as emit-exp-kinds
 use Rattle.compiler.proofs.emission.+emit_exp.Lts-emit_exp as emit-exp-lts
-use Rattle.compiler.proofs.emission.emit_load.Reads as emit-load-reads
-use Rattle.compiler.proofs.emission.emit_name.Reads as emit-name-reads
-use Rattle.compiler.proofs.emission.emit_not.Reads as emit-not-reads
-use Rattle.compiler.proofs.emission.emit_operator.Reads as emit-operator-reads
-use Rattle.compiler.proofs.emission.put.Reads as put-reads
+use Rattle.compiler.proofs.construct.emit_load.Reads as emit-load-reads
+use Rattle.compiler.proofs.construct.emit_name.Reads as emit-name-reads
+use Rattle.compiler.proofs.construct.emit_not.Reads as emit-not-reads
+use Rattle.compiler.proofs.construct.emit_operator.Reads as emit-operator-reads
+use Rattle.compiler.proofs.construct.put.Reads as put-reads
 use Rattle.compiler.proofs.node.link.Reads as link-reads
 use Rattle.compiler.proofs.node.word.Reads as word-reads
 use Rattle.compiler.proofs.pool.cleared.Reads as cleared-reads

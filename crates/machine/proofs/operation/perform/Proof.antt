@@ -15,42 +15,42 @@ add-t10 c = search needs
 
 add-requires : tie.Need-add-requires
 unfolding formed operations
-add-requires c κs = let h = registers-below (c .before .before .before .args .a) (c .before .before .before .args .b) (c .before .before .before .args .c) (rw (c .before .match .keys3) at (c .before .before .before .pre .0)) in (h .0, h .1, h .2, c .before .before .before .pre .1)
+add-requires c κs = let h = registers-below (c .before .before .before .args .a) (c .before .before .before .args .b) (c .before .before .before .args .c) (rw (c .before .match .keys3) at (c .before .before .before .pre .0)) in (h .0, h .1, h .2, c .before .before .before .pre .1, c .before .before .before .pre .2)
 
 addi-requires : tie.Need-addi-requires
 unfolding formed operations
-addi-requires c κs = let h = registers-below (c .before .before .before .args .a) 0 (c .before .before .before .args .c) (rw (c .before .match .keys4) at (c .before .before .before .pre .0)) in (h .0, h .2, c .before .before .before .pre .1)
+addi-requires c κs = let h = registers-below (c .before .before .before .args .a) 0 (c .before .before .before .args .c) (rw (c .before .match .keys4) at (c .before .before .before .pre .0)) in (h .0, h .2, c .before .before .before .pre .1, c .before .before .before .pre .2)
 
 sub-requires : tie.Need-sub-requires
 unfolding formed operations
-sub-requires c κs = let h = registers-below (c .before .before .before .args .a) (c .before .before .before .args .b) (c .before .before .before .args .c) (rw (c .before .match .keys5) at (c .before .before .before .pre .0)) in (h .0, h .1, h .2, c .before .before .before .pre .1)
+sub-requires c κs = let h = registers-below (c .before .before .before .args .a) (c .before .before .before .args .b) (c .before .before .before .args .c) (rw (c .before .match .keys5) at (c .before .before .before .pre .0)) in (h .0, h .1, h .2, c .before .before .before .pre .1, c .before .before .before .pre .2)
 
 mul-requires : tie.Need-mul-requires
 unfolding formed operations
-mul-requires c κs = let h = registers-below (c .before .before .before .args .a) (c .before .before .before .args .b) (c .before .before .before .args .c) (rw (c .before .match .keys6) at (c .before .before .before .pre .0)) in (h .0, h .1, h .2, c .before .before .before .pre .1)
+mul-requires c κs = let h = registers-below (c .before .before .before .args .a) (c .before .before .before .args .b) (c .before .before .before .args .c) (rw (c .before .match .keys6) at (c .before .before .before .pre .0)) in (h .0, h .1, h .2, c .before .before .before .pre .1, c .before .before .before .pre .2)
 
 load-requires : tie.Need-load-requires
 unfolding formed operations
-load-requires c κs = let h = registers-below (c .before .before .before .before .args .a) (c .before .before .before .before .args .b) (c .before .before .before .before .args .c) (rw (c .before .before .match .keys7) at (c .before .before .before .before .pre .0)) in (h .0, h .1, h .2, c .before .before .before .before .pre .1)
+load-requires c κs = let h = registers-below (c .before .before .before .before .args .a) (c .before .before .before .before .args .b) (c .before .before .before .before .args .c) (rw (c .before .before .match .keys7) at (c .before .before .before .before .pre .0)) in (h .0, h .1, h .2, c .before .before .before .before .pre .1, c .before .before .before .before .pre .2)
 
 store-requires : tie.Need-store-requires
 unfolding formed operations
-store-requires c κs = let h = registers-below (c .before .before .before .before .args .a) (c .before .before .before .before .args .b) (c .before .before .before .before .args .c) (rw (c .before .before .match .keys8) at (c .before .before .before .before .pre .0)) in (h .2, h .0, h .1, c .before .before .before .before .pre .1)
+store-requires c κs = let h = registers-below (c .before .before .before .before .args .a) (c .before .before .before .before .args .b) (c .before .before .before .before .args .c) (rw (c .before .before .match .keys8) at (c .before .before .before .before .pre .0)) in (h .2, h .0, h .1, c .before .before .before .before .pre .1, c .before .before .before .before .pre .2)
 
 jump-requires : tie.Need-jump-requires
 jump-requires c κs = search needs
 
 bne-requires : tie.Need-bne-requires
 unfolding formed operations
-bne-requires c κs = let h = registers-below (c .before .before .before .args .a) (c .before .before .before .args .b) 0 (rw (c .before .match .keys10) at (c .before .before .before .pre .0)) in (h .0, h .1, c .before .before .before .pre .1)
+bne-requires c κs = let h = registers-below (c .before .before .before .args .a) (c .before .before .before .args .b) 0 (rw (c .before .match .keys10) at (c .before .before .before .pre .0)) in (h .0, h .1, c .before .before .before .pre .1, c .before .before .before .pre .2)
 
 beq-requires : tie.Need-beq-requires
 unfolding formed operations
-beq-requires c κs = let h = registers-below (c .before .before .before .args .a) (c .before .before .before .args .b) 0 (rw (c .before .match .keys11) at (c .before .before .before .pre .0)) in (h .0, h .1, c .before .before .before .pre .1)
+beq-requires c κs = let h = registers-below (c .before .before .before .args .a) (c .before .before .before .args .b) 0 (rw (c .before .match .keys11) at (c .before .before .before .pre .0)) in (h .0, h .1, c .before .before .before .pre .1, c .before .before .before .pre .2)
 
 slt-requires : tie.Need-slt-requires
 unfolding formed operations
-slt-requires c κs = let h = registers-below (c .before .before .before .args .a) (c .before .before .before .args .b) (c .before .before .before .args .c) (rw (c .before .match .keys12) at (c .before .before .before .pre .0)) in (h .0, h .1, h .2, c .before .before .before .pre .1)
+slt-requires c κs = let h = registers-below (c .before .before .before .args .a) (c .before .before .before .args .b) (c .before .before .before .args .c) (rw (c .before .match .keys12) at (c .before .before .before .pre .0)) in (h .0, h .1, h .2, c .before .before .before .pre .1, c .before .before .before .pre .2)
 
 returns : tie.Need-returns
 unfolding perform
