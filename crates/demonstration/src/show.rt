@@ -73,7 +73,7 @@ fn declared(kind: u32, value: u32, cell: u32) {
 }
 
 // A row of the declarations.
-pub fn declaration(name: &[u8], row: u32, declarations: &[u32; 8], cells: &[u32; 256])
+pub(crate) fn declaration(name: &[u8], row: u32, declarations: &[u32; 8], cells: &[u32; 256])
     requires { ⌜ row < 4 ⌝ }
 {
     let at = row as usize;

@@ -2,7 +2,7 @@
 ghost use Prim.Native.Nat.{_<_};
 
 // Puts a row into the table.
-pub fn put(nodes: &mut [u32; 4100], row: u32, kind: u32, a: u32, b: u32, c: u32)
+pub(crate) fn put(nodes: &mut [u32; 4100], row: u32, kind: u32, a: u32, b: u32, c: u32)
     requires { ⌜ row < 1025 ⌝ }
 {
     let at = row as usize * 4;
