@@ -165,7 +165,9 @@ uint32_t sauskinna_compile(const int32_t *declarations, size_t declaration_words
  *                      compile's answer[0]
  *   memory, cells      0 to 65,536 cells, used with the values that they hold
  *   place              the instruction to do, from 0; then the one after it
- *   registers          $0 to $63. registers[0] is neither read nor changed.
+ *   registers          $0 to $63. $0 reads as 0 whatever registers[0]
+ *                      holds, and that holds after the call what it held
+ *                      before; during the call it may be 0.
  *
  * Returns 0; answer is an ending (0 went on, 1 halted, 2 faulted), the fault's
  * number or 0, and the steps taken (1, or 0 at a fault). A halt counts as a
