@@ -2,9 +2,9 @@
 -- Assumes nothing.
 use mathlib.Core.Path.{_≡_, sym, ap, subst, subst₂}
 use mathlib.Core.List.{List}
-use Prim.Native.Nat.{ℕ, _<_}
+use Prim.Native.Nat.{ℕ, _<_, _≤_}
 use native.Mathlib.Omega.{arith}
-use lib.ListN.{getD}
+use lib.ListN.{length, getD}
 use Rattle.rule.specs.Tree.{Binding}
 use Rattle.rule.specs.Table.{declarationRows, firstCell, expAt, comAt}
 use Rattle.compiler.specs.Compile.{Texp, Tcom}
@@ -28,3 +28,8 @@ module _ (ρ : ℕ → Binding) (ns : List ℕ) (m n : ℕ) (same : m ≡ n) whe
 
   pub com-fits : (l : List ℕ) (q : ℕ) (F : List ℕ) → FitCom ρ (comAt ns n) l q F → FitCom ρ (comAt ns m) l q F
   com-fits l q F f = subst (λ (k : ℕ). FitCom ρ (comAt ns k) l q F) (sym same) f
+
+  -- by the number of registers, whichever they are
+  pub fits-as-many : {l : List ℕ} {q : ℕ} {F G : List ℕ} → Fit ρ (expAt ns n) l q F → length F ≤ length G → Fit ρ (expAt ns m) l q G
+  fits-as-many {l} {q} {G = G} f h =
+      subst (λ (k : ℕ). Fit ρ (expAt ns k) l q G) (sym same) (record { need = omega (arith, f .need); room = f .room })

@@ -90,13 +90,14 @@ fn emit_exp(
         return emit_not(code, p, target, t);
     }
     let u = lowest(rest);
+    let remaining = cleared(rest);
     let q = emit_exp(
         declarations,
         nodes,
         bases,
         link(nodes, row, 2),
         u,
-        cleared(rest),
+        remaining,
         code,
         p,
     );

@@ -1,6 +1,6 @@
 -- Laws of the entry points: what accepted sizes are, what a run has left, and that a single step is a run under the budget 1.
 -- Assumes nothing.
-use mathlib.Core.Path.{_≡_, refl}
+use mathlib.Core.Path.{_≡_, refl, sym, ap, _∙_}
 use mathlib.Core.Bool.{Bool, true, false, cond, _&&_}
 use mathlib.Core.List.{List}
 use Prim.Native.Nat.{ℕ, zero, suc, _%_, _<_, _≤_}
@@ -60,20 +60,23 @@ asStepped x = shown (asStep (x .said)) (x .state) (x .memory)
 
 pub step-is-run : (code m : List ℕ) (s : State) → stepEntry code m s ≡ asStepped (runEntry code m s 1)
 unfolding stepEntry runEntry runOf
-step-is-run code m s = go (sizesOf (length code) (length m))
+step-is-run code m s =
+    let d : Did = stepOf code (s .place) (s .registers) m in
+    let x : Sizes = sizesOf (length code) (length m) in
+    ap (λ (y : Shown). entered x y s m) (one (d .next) (d .registers) (d .memory)) ∙ within x (runShown 1 (follow (runOf code 0) 0 (s .place) (d .next) (d .registers) (d .memory)))
   where
     one : (x : Next) (g m′ : List ℕ) → stepShown (s .place) x g m′ ≡ asStepped (runShown 1 (follow (runOf code 0) 0 (s .place) x g m′))
     one (Go q) g m′ = refl
     one Halt g m′ = refl
     one (Fault f) g m′ = refl
 
-    go : (x : Sizes)
-        → entered x (stepShown (s .place) (stepOf code (s .place) (s .registers) m .next) (stepOf code (s .place) (s .registers) m .registers) (stepOf code (s .place) (s .registers) m .memory)) s m
-        ≡ asStepped
-        (entered x (runShown 1 (follow (runOf code 0) 0 (s .place) (stepOf code (s .place) (s .registers) m .next) (stepOf code (s .place) (s .registers) m .registers) (stepOf code (s .place) (s .registers) m .memory))) s m)
-    go Fine = one (stepOf code (s .place) (s .registers) m .next) (stepOf code (s .place) (s .registers) m .registers) (stepOf code (s .place) (s .registers) m .memory)
-    go CodeWords = refl
-    go MemoryCells = refl
+    within : (x : Sizes) (y : Shown) → entered x (asStepped y) s m ≡ asStepped (entered x y s m)
+    within Fine y = refl
+    within CodeWords y = refl
+    within MemoryCells y = refl
+
+pub as-step : (code m : List ℕ) (s : State) {x : Shown} → x ≡ runEntry code m s 1 → asStepped x ≡ stepEntry code m s
+as-step code m s e = ap asStepped e ∙ sym (step-is-run code m s)
 
 -- of what an accepted run leaves, the budget and the place
 pub left-at : (code : List ℕ) (k p : ℕ) (g m : List ℕ) (r : Ran) → r ≡ runOf code k p g m → r .left ≤ k

@@ -1,3 +1,4 @@
+pub mod Sentences
 pub mod Runs
 pub mod Places
 pub mod Entries
@@ -6,4 +7,3 @@ pub mod Cleared
 pub mod Singly
 pub mod Joined
 pub mod Outcomes
-pub mod Examples

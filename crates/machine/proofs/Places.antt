@@ -1,6 +1,6 @@
 -- A step's next place is at most the number of instructions, and so is a run's place, or it is no further than where the run began.
 -- Assumes nothing.
-use mathlib.Core.Path.{_≡_, refl}
+use mathlib.Core.Path.{_≡_, refl, sym, subst}
 use mathlib.Core.Bool.{Bool, true, false, cond, not}
 use mathlib.Core.List.{List, [], _∷_}
 use Prim.Native.Nat.{ℕ, zero, suc, _+_, _*_, _<_, _≤_}
@@ -15,6 +15,7 @@ use Rattle.machine.specs.declared.Next.{Next}
 use Rattle.machine.specs.declared.Next.the-variants.{Go, Halt, Fault}
 use Rattle.machine.specs.Step.{Did, did, loads, stores, jumpsTo, branches, rules, perform, tried, stepOf, cellAt, readOf}
 use Rattle.machine.specs.Run.{follow, runOf}
+use Rattle.machine.proofs.Sentences.{not-taken}
 
 abbrev Within : ℕ → Next → Type 0
 Within n (Go q) = q ≤ n
@@ -57,7 +58,7 @@ module _ (n p : ℕ) (inside : p < n) where
 
   branched : (t : Bool) (l : ℕ) → Within n (branches t n p l)
   branched true l = jumped l
-  branched false l = inside
+  branched false l = subst (Within n) (sym (not-taken n p l)) inside
 
   abbrev Fine : Did → Type 0
   Fine d = Within n (d .next)

@@ -168,7 +168,8 @@ pub fn run_in_place(
             let left = e.left;
             let to = e.place;
             *place = to as u32;
-            RunAnswer::Ended(ending, budget - left)
+            let steps = budget - left;
+            RunAnswer::Ended(ending, steps)
         }
     }
 }

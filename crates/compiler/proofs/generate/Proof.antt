@@ -1,8 +1,9 @@
 use mathlib.Core.Path.{refl}
 use mathlib.Core.List.{List}
-use Prim.Native.Nat.{ℕ}
+use Prim.Native.Nat.{ℕ, _+_}
 use native.Mathlib.Omega.{arith}
 use denote.Ref.{now}
+use lib.ListN.{length}
 use Rattle.rule.specs.Tree.{Binding, Com}
 use Rattle.rule.specs.Table.{bindingOf, comAt}
 use Rattle.compiler.specs.Pool.{registersOf}
@@ -49,7 +50,8 @@ returns-2 : tie.Need-returns-2
 returns-2 c =
     let h = rw (c .before .before .before .before .count .ensures) at (c .before .before .before .if1 .left) in
     let g = rw (c .before .wide .ensures) at (c .if2 .taken) in
-    (rw (← c .before .before .before .before .before .need-com .ensures .0, ← c .before .before .size-com .ensures, enough-registers _ _ h, no-room _ _ g), refl)
+    let w = length (l (c .before .before .before .before .before .before .before .before .before)) in
+    (rw (← c .before .before .before .before .before .need-com .ensures .0, ← c .before .before .size-com .ensures, enough-registers _ _ h, no-room (c .before .before .size-com .result + 1) w (omega (arith, g))), refl)
 
 emit-com-requires : tie.Need-emit-com-requires
 emit-com-requires c κs =

@@ -1,6 +1,6 @@
 -- `proceed`: at each turn what is left to run is the whole run from its start.
 -- Assumes nothing.
-use Prim.Native.Nat.{_≤_}
+use Prim.Native.Nat.{_≤_, _<_}
 use mathlib.Core.Path.{_≡_, refl, _∙_}
 use native.Mathlib.Omega.{arith}
 use lib.ListN.{length, getD}
@@ -34,7 +34,9 @@ loop-less : tie.Need-loop-less Inv-loop μ-loop
 loop-less c = omega arith
 
 loop-again : tie.Need-loop-again Inv-loop μ-loop
-loop-again c = (omega arith, c .before .before .before .before .before .advance .kept .1 .1 .1 .0 ∙ c .before .before .before .before .before .before .before .before .before .loop .inv .1, run-go _ _ _ _ _ _ _ (c .before .before .before .before .before .advance .ensures) _ _ (c .before .before .before .before .before .before .before .before .loop-test .taken) (c .before .next .given .1) ∙ c .before .before .before .before .before .before .before .before .before .loop .inv .2, step-cleared _ _ _ _ _ _ _ (c .before .before .before .before .before .advance .ensures) (c .before .before .before .before .before .before .before .before .before .loop .inv .3))
+loop-again c =
+    let lt : 0 < c .before .before .before .before .before .before .before .before .before .loop .left = omega arith in
+    (omega arith, c .before .before .before .before .before .advance .kept .1 .1 .1 .0 ∙ c .before .before .before .before .before .before .before .before .before .loop .inv .1, run-go _ _ _ _ _ _ _ (c .before .before .before .before .before .advance .ensures) _ _ lt (c .before .next .given .1) ∙ c .before .before .before .before .before .before .before .before .before .loop .inv .2, step-cleared _ _ _ _ _ _ _ (c .before .before .before .before .before .advance .ensures) (c .before .before .before .before .before .before .before .before .before .loop .inv .3))
 
 enum-told : tie.Need-enum-told Inv-loop μ-loop
 enum-told c = search needs
@@ -46,7 +48,9 @@ same-length : tie.Need-same-length Inv-loop μ-loop
 same-length c = search needs
 
 returns : tie.Need-returns Inv-loop μ-loop
-returns c = run-halt _ _ _ _ _ _ _ (c .before .before .before .before .advance .ensures) _ (c .before .before .before .before .before .before .before .loop-test .taken) (c .enum-told .given .1) ∙ c .before .before .before .before .before .before .before .before .loop .inv .2
+returns c =
+    let lt : 0 < c .before .before .before .before .before .before .before .before .loop .left = omega arith in
+    run-halt _ _ _ _ _ _ _ (c .before .before .before .before .advance .ensures) _ lt (c .enum-told .given .1) ∙ c .before .before .before .before .before .before .before .before .loop .inv .2
 
 enum-known-next-2 : tie.Need-enum-known-next-2 Inv-loop μ-loop
 enum-known-next-2 c = search needs
@@ -55,7 +59,9 @@ same-length-2 : tie.Need-same-length-2 Inv-loop μ-loop
 same-length-2 c = search needs
 
 returns-2 : tie.Need-returns-2 Inv-loop μ-loop
-returns-2 c = run-fault _ _ _ _ _ _ _ (c .before .before .before .before .before .advance .ensures) _ _ (c .before .before .before .before .before .before .before .before .loop-test .taken) (c .before .next2 .given .1) ∙ c .before .before .before .before .before .before .before .before .before .loop .inv .2
+returns-2 c =
+    let lt : 0 < c .before .before .before .before .before .before .before .before .before .loop .left = omega arith in
+    run-fault _ _ _ _ _ _ _ (c .before .before .before .before .before .advance .ensures) _ _ lt (c .before .next2 .given .1) ∙ c .before .before .before .before .before .before .before .before .before .loop .inv .2
 
 same-length-3 : tie.Need-same-length-3 Inv-loop μ-loop
 same-length-3 c = search needs

@@ -4,6 +4,7 @@ use Rattle.machine.specs.Entry.{runEntry}
 use Rattle.machine.proofs.Entries.{fine-words, left-at, place-at}
 use Rattle.machine.proofs.Cleared.{cleared, put-back}
 use mathlib.Core.Path.{_∙_, sym}
+use native.Mathlib.Omega.{arith}
 use borrow.Author.Needs.{needs}
 use Rattle.machine.proofs.run_in_place.Statement.{statement}
 use Rattle.machine.proofs.run_in_place.Tie as tie
@@ -35,8 +36,8 @@ element-write-registers-2 c = search needs
 cast-place : tie.Need-cast-place
 cast-place c = record { fits = place-at _ _ _ _ _ _ (fine-words _ _ (sym (c .before .before .before .before .before .before .before .before .before .check-sizes .ensures) ∙ c .before .before .before .before .before .before .before .enum-told3 .given .1)) (search needs) (c .before .before .proceed .ensures) }
 
-sub-t16 : tie.Need-sub-t16
-sub-t16 c = left-at _ _ _ _ _ _ (c .before .before .proceed .ensures)
+sub-steps : tie.Need-sub-steps
+sub-steps c = let h = left-at _ _ _ _ _ _ (c .before .before .proceed .ensures) in omega arith
 
 returns : tie.Need-returns
 unfolding runEntry
@@ -66,7 +67,7 @@ run-in-place-spec =
     proceed-requires
     element-write-registers-2
     cast-place
-    sub-t16
+    sub-steps
     returns
     returns-2
     same-length

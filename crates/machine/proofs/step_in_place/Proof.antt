@@ -1,6 +1,6 @@
 -- `step_in_place`: a single step is a run under the budget 1.
 -- Assumes nothing.
-use Rattle.machine.proofs.Entries.{step-is-run}
+use Rattle.machine.proofs.Entries.{as-step}
 use borrow.Author.Needs.{needs}
 use Rattle.machine.proofs.step_in_place.Statement.{statement}
 use Rattle.machine.proofs.step_in_place.Tie as tie
@@ -30,31 +30,31 @@ same-length : tie.Need-same-length
 same-length c = search needs
 
 returns : tie.Need-returns
-returns c = rw (step-is-run, ← c .before .before .before .before .run-in-place .ensures, c .enum-told .given .1)
+returns c = rw (c .enum-told .given .1) at (as-step _ _ _ (c .before .before .before .before .run-in-place .ensures))
 
 same-length-2 : tie.Need-same-length-2
 same-length-2 c = search needs
 
 returns-2 : tie.Need-returns-2
-returns-2 c = rw (step-is-run, ← c .before .before .before .before .run-in-place .ensures, c .enum-told2 .given .1)
+returns-2 c = rw (c .enum-told2 .given .1) at (as-step _ _ _ (c .before .before .before .before .run-in-place .ensures))
 
 same-length-3 : tie.Need-same-length-3
 same-length-3 c = search needs
 
 returns-3 : tie.Need-returns-3
-returns-3 c = rw (step-is-run, ← c .before .before .before .before .before .before .before .run-in-place .ensures, c .before .before .before .answer .given .1, c .enum-told3 .given .1)
+returns-3 c = rw (c .before .before .before .answer .given .1, c .enum-told3 .given .1) at (as-step _ _ _ (c .before .before .before .before .before .before .before .run-in-place .ensures))
 
 same-length-4 : tie.Need-same-length-4
 same-length-4 c = search needs
 
 returns-4 : tie.Need-returns-4
-returns-4 c = rw (step-is-run, ← c .before .before .before .before .before .before .before .before .run-in-place .ensures, c .before .before .before .before .answer .given .1, c .before .ending .given .1)
+returns-4 c = rw (c .before .before .before .before .answer .given .1, c .before .ending .given .1) at (as-step _ _ _ (c .before .before .before .before .before .before .before .before .run-in-place .ensures))
 
 same-length-5 : tie.Need-same-length-5
 same-length-5 c = search needs
 
 returns-5 : tie.Need-returns-5
-returns-5 c = rw (step-is-run, ← c .before .before .before .before .before .before .before .run-in-place .ensures, c .before .before .before .answer .given .1, c .enum-told4 .given .1)
+returns-5 c = rw (c .before .before .before .answer .given .1, c .enum-told4 .given .1) at (as-step _ _ _ (c .before .before .before .before .before .before .before .run-in-place .ensures))
 
 pub step-in-place-spec : {M : Type 1} → statement M
 step-in-place-spec =

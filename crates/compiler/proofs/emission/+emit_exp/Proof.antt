@@ -16,7 +16,8 @@ use Rattle.compiler.specs.Inside.{opOf, Rows, Based, ExpRow, Room, Emitt
 use Rattle.compiler.proofs.Bindings.{base-array}
 use Rattle.compiler.proofs.Emitting.{emitted-as}
 use Rattle.compiler.proofs.Constructs.{past, not-emitted, element-emitted, binary-emitted}
-use Rattle.compiler.proofs.Fitting.{fit-not, fit-element, fit-left, fit-right, room-not, room-element, room-operator}
+use Rattle.compiler.proofs.Fitting.{length-without, fit-not, fit-element, fit-left, fit-right, room-not, room-element, room-operator}
+use Rattle.compiler.proofs.Calls.{fits-as-many}
 use Rattle.compiler.proofs.Reading as R
 use Rattle.compiler.proofs.Reading.{SubExp}
 use Prim.Native.Nat.{ℕ, _<_}
@@ -254,32 +255,47 @@ module _ (t : ℕ) where
       let w = c .before .before .before .before .before .before .before .before .before .before .before in
       rw (c .before .before .before .before .before .before .before .cleared .ensures) (fit-left (ρ w) (l w) (p w) (F w) (opOf (kindOf (k w))) (op w 1) (op w 2) (fit-as w (at w R.binary-read (c .before .before .before .before .before .before .before .before .before .before .if1 .left) (c .before .before .before .before .before .before .before .before .before .if2 .left) (c .before .before .before .before .before .before .if3 .left) (c .if4 .left))) .2)
 
+  cleared-requires-2 : emit-exp-lts.Need-cleared-requires-2 us pre emit-exp.Post
+  cleared-requires-2 c κs =
+      let w = c .before .before .before .before .before .before .before .before .before .before .before .before in
+      rw (c .before .before .before .before .before .before .before .before .cleared .ensures) (fit-left (ρ w) (l w) (p w) (F w) (opOf (kindOf (k w))) (op w 1) (op w 2) (fit-as w (at w R.binary-read (c .before .before .before .before .before .before .before .before .before .before .before .if1 .left) (c .before .before .before .before .before .before .before .before .before .before .if2 .left) (c .before .before .before .before .before .before .before .if3 .left) (c .before .if4 .left))) .2)
+
   link-requires-5 : emit-exp-lts.Need-link-requires-5 us pre emit-exp.Post
   link-requires-5 c κs = omega arith
 
-  cleared-requires-2 : emit-exp-lts.Need-cleared-requires-2 us pre emit-exp.Post
-  cleared-requires-2 c κs =
-      let w = c .before .before .before .before .before .before .before .before .before .before .before .before .before in
-      rw (c .before .before .before .before .before .before .before .before .before .cleared .ensures) (fit-left (ρ w) (l w) (p w) (F w) (opOf (kindOf (k w))) (op w 1) (op w 2) (fit-as w (at w R.binary-read (c .before .before .before .before .before .before .before .before .before .before .before .before .if1 .left) (c .before .before .before .before .before .before .before .before .before .before .before .if2 .left) (c .before .before .before .before .before .before .before .before .if3 .left) (c .before .before .if4 .left))) .2)
-
+  -- by the number of registers, whichever they are
   emit-exp-requires-3 : emit-exp-lts.Need-emit-exp-requires-3 us pre emit-exp.Post
   emit-exp-requires-3 c κs =
       let w = c .before .before .before .before .before .before .before .before .before .before .before .before .before .before .before in
       let f = fit-as w (at w R.binary-read (c .before .before .before .before .before .before .before .before .before .before .before .before .before .before .if1 .left) (c .before .before .before .before .before .before .before .before .before .before .before .before .before .if2 .left) (c .before .before .before .before .before .before .before .before .before .before .if3 .left) (c .before .before .before .before .if4 .left)) in
       let x = laid w 1 (c .before .before .before .before .before .before .before .before .before .link4 .result) (c .before .before .before .before .before .before .before .before .before .link4 .ensures) (c .before .before .before .before .before .before .before .before .before .before .before .before .lowest .result) (registersOf (c .before .before .before .before .before .before .before .before .before .before .before .cleared .result)) (c .before .before .before .before .before .before .before .emit-exp2 .ensures) in
-      ask w 2 (c .before .before .link5 .result) (c .before .before .link5 .ensures) (at w R.right (c .before .before .before .before .before .before .before .before .before .before .before .before .before .before .if1 .left) (c .before .before .before .before .before .before .before .before .before .before .before .before .before .if2 .left) (c .before .before .before .before .before .before .before .before .before .before .if3 .left) (c .before .before .before .before .if4 .left)) (c .before .before .before .before .before .before .before .emit-exp2 .last .1 .1 .1 .1 .1 .1 .0) (c .before .before .before .before .before .before .before .emit-exp2 .result) (registersOf (c .before .cleared2 .result)) (without (without (F w)))
-      (c .before .cleared2 .ensures ∙ ap without (c .before .before .before .before .before .before .before .before .before .before .before .cleared .ensures))
-      (fit-right (ρ w) (l w) (p w) (F w) (op w 1) (past (ρ w) (op w 1) (c .before .before .before .before .before .before .before .before .before .before .before .before .lowest .result) (registersOf (c .before .before .before .before .before .before .before .before .before .before .before .cleared .result)) x) (opOf (kindOf (k w))) (op w 2) f)
+      let b = at w R.right (c .before .before .before .before .before .before .before .before .before .before .before .before .before .before .if1 .left) (c .before .before .before .before .before .before .before .before .before .before .before .before .before .if2 .left) (c .before .before .before .before .before .before .before .before .before .before .if3 .left) (c .before .before .before .before .if4 .left) in
+      let fits = fit-right (ρ w) (l w) (p w) (F w) (op w 1) (past (ρ w) (op w 1) (c .before .before .before .before .before .before .before .before .before .before .before .before .lowest .result) (registersOf (c .before .before .before .before .before .before .before .before .before .before .before .cleared .result)) x) (opOf (kindOf (k w))) (op w 2) f in
+      let left : registersOf (c .before .before .cleared2 .result) ≡ without (without (F w)) = c .before .before .cleared2 .ensures ∙ ap without (c .before .before .before .before .before .before .before .before .before .before .before .cleared .ensures) in
+      let lt = b .below in
+      let e = c .before .link5 .ensures in (
+        omega arith,
+        (
+          s w .pre .1 .0,
+          (
+            s w .pre .1 .1 .0,
+            (
+              subst (ExpRow (ns w)) (sym e) (b .row),
+              fits-as-many (ρ w) (ns w) (c .before .link5 .result) (word (ns w) (i w) 2) e fits (omega (arith, ap length left, ap length (c .before .before .before .before .before .before .before .before .before .before .before .cleared .ensures), length-without (F w), length-without (without (F w)))),
+            ),
+          ),
+        ),
+      )
 
   emit-operator-requires : emit-exp-lts.Need-emit-operator-requires us pre emit-exp.Post
   emit-operator-requires c κs =
       let w = c .before .before .before .before .before .before .before .before .before .before .before .before .before .before .before .before .before .before .before in
       let f = fit-as w (at w R.binary-read (c .before .before .before .before .before .before .before .before .before .before .before .before .before .before .before .before .before .before .if1 .left) (c .before .before .before .before .before .before .before .before .before .before .before .before .before .before .before .before .before .if2 .left) (c .before .before .before .before .before .before .before .before .before .before .before .before .before .before .if3 .left) (c .before .before .before .before .before .before .before .before .if4 .left)) in
       let x = laid w 1 (c .before .before .before .before .before .before .before .before .before .before .before .before .before .link4 .result) (c .before .before .before .before .before .before .before .before .before .before .before .before .before .link4 .ensures) (c .before .before .before .before .before .before .before .before .before .before .before .before .before .before .before .before .lowest .result) (registersOf (c .before .before .before .before .before .before .before .before .before .before .before .before .before .before .before .cleared .result)) (c .before .before .before .before .before .before .before .before .before .before .before .emit-exp2 .ensures) in
-      let y = laid w 2 (c .before .before .before .before .before .before .link5 .result) (c .before .before .before .before .before .before .link5 .ensures) (c .before .before .before .before .before .before .before .lowest2 .result) (registersOf (c .before .before .before .before .before .cleared2 .result)) (c .before .before .before .emit-exp3 .ensures) in (
+      let y = laid w 2 (c .before .before .before .before .before .link5 .result) (c .before .before .before .before .before .link5 .ensures) (c .before .before .before .before .before .before .before .lowest2 .result) _ (c .before .before .before .emit-exp3 .ensures) in (
         at w R.binary-kind (c .before .before .before .before .before .before .before .before .before .before .before .before .before .before .before .before .before .before .if1 .left) (c .before .before .before .before .before .before .before .before .before .before .before .before .before .before .before .before .before .if2 .left) (c .before .before .before .before .before .before .before .before .before .before .before .before .before .before .if3 .left) (c .before .before .before .before .before .before .before .before .if4 .left),
         room-operator (ρ w) (l w) (p w) (F w) (op w 1) (past (ρ w) (op w 1) (c .before .before .before .before .before .before .before .before .before .before .before .before .before .before .before .before .lowest .result) (registersOf (c .before .before .before .before .before .before .before .before .before .before .before .before .before .before .before .cleared .result)) x) (opOf (kindOf (k w))) (op w 2) f
-            (past (ρ w) (op w 2) (c .before .before .before .before .before .before .before .lowest2 .result) (registersOf (c .before .before .before .before .before .cleared2 .result)) y),
+            (past (ρ w) (op w 2) (c .before .before .before .before .before .before .before .lowest2 .result) _ y),
       )
 
   same-length-5 : emit-exp-lts.Need-same-length-5 us pre emit-exp.Post
@@ -289,9 +305,9 @@ module _ (t : ℕ) where
   returns-5 c =
       let w = c .before .before .before .before .before .before .before .before .before .before .before .before .before .before .before .before .before .before .before .before .before .before in
       let x = laid w 1 (c .before .before .before .before .before .before .before .before .before .before .before .before .before .before .before .before .link4 .result) (c .before .before .before .before .before .before .before .before .before .before .before .before .before .before .before .before .link4 .ensures) (c .before .before .before .before .before .before .before .before .before .before .before .before .before .before .before .before .before .before .before .lowest .result) (registersOf (c .before .before .before .before .before .before .before .before .before .before .before .before .before .before .before .before .before .before .cleared .result)) (c .before .before .before .before .before .before .before .before .before .before .before .before .before .before .emit-exp2 .ensures) in
-      let y = laid w 2 (c .before .before .before .before .before .before .before .before .before .link5 .result) (c .before .before .before .before .before .before .before .before .before .link5 .ensures) (c .before .before .before .before .before .before .before .before .before .before .lowest2 .result) (registersOf (c .before .before .before .before .before .before .before .before .cleared2 .result)) (c .before .before .before .before .before .before .emit-exp3 .ensures) in
+      let y = laid w 2 (c .before .before .before .before .before .before .before .before .link5 .result) (c .before .before .before .before .before .before .before .before .link5 .ensures) (c .before .before .before .before .before .before .before .before .before .before .lowest2 .result) (registersOf (c .before .before .before .before .before .before .before .before .before .cleared2 .result)) (c .before .before .before .before .before .before .emit-exp3 .ensures) in
       done w (at w R.binary-read (c .before .before .before .before .before .before .before .before .before .before .before .before .before .before .before .before .before .before .before .before .before .if1 .left) (c .before .before .before .before .before .before .before .before .before .before .before .before .before .before .before .before .before .before .before .before .if2 .left) (c .before .before .before .before .before .before .before .before .before .before .before .before .before .before .before .before .before .if3 .left) (c .before .before .before .before .before .before .before .before .before .before .before .if4 .left))
-      (binary-emitted (ρ w) (r w) (F w) (p w) (c .before .before .before .before .before .before .before .before .before .before .before .before .before .before .before .before .before .before .before .lowest .ensures) (c .before .before .before .before .before .before .before .before .before .before .before .before .before .before .before .before .before .before .cleared .ensures) (op w 1) (op w 2) (opOf (kindOf (k w))) (c .before .before .before .before .before .before .before .before .before .before .lowest2 .ensures) (c .before .before .before .before .before .before .before .before .cleared2 .ensures) x y (c .before .before .emit-operator .ensures))
+      (binary-emitted (ρ w) (r w) (F w) (p w) (c .before .before .before .before .before .before .before .before .before .before .before .before .before .before .before .before .before .before .before .lowest .ensures) (c .before .before .before .before .before .before .before .before .before .before .before .before .before .before .before .before .before .before .cleared .ensures) (op w 1) (op w 2) (opOf (kindOf (k w))) (c .before .before .before .before .before .before .before .before .before .before .lowest2 .ensures) (c .before .before .before .before .before .before .before .before .before .cleared2 .ensures) x y (c .before .before .emit-operator .ensures))
 
 pub +emit-exp-spec : {M : Type 1} → statement M
-+emit-exp-spec = close μ λ t. emit-exp-lts.spec (us t) (pre t) emit-exp.Post (word-requires t) (word-requires-2 t) (put-requires t) (same-length t) (returns t) (link-requires t) (emit-name-requires t) (same-length-2 t) (returns-2 t) (lowest-requires t) (cleared-requires t) (link-requires-2 t) (emit-exp-requires t) (link-requires-3 t) (emit-load-requires t) (same-length-3 t) (returns-3 t) (link-requires-4 t) (emit-exp-requires-2 t) (emit-not-requires t) (same-length-4 t) (returns-4 t) (lowest-requires-2 t) (link-requires-5 t) (cleared-requires-2 t) (emit-exp-requires-3 t) (emit-operator-requires t) (same-length-5 t) (returns-5 t)
++emit-exp-spec = close μ λ t. emit-exp-lts.spec (us t) (pre t) emit-exp.Post (word-requires t) (word-requires-2 t) (put-requires t) (same-length t) (returns t) (link-requires t) (emit-name-requires t) (same-length-2 t) (returns-2 t) (lowest-requires t) (cleared-requires t) (link-requires-2 t) (emit-exp-requires t) (link-requires-3 t) (emit-load-requires t) (same-length-3 t) (returns-3 t) (link-requires-4 t) (emit-exp-requires-2 t) (emit-not-requires t) (same-length-4 t) (returns-4 t) (lowest-requires-2 t) (cleared-requires-2 t) (link-requires-5 t) (emit-exp-requires-3 t) (emit-operator-requires t) (same-length-5 t) (returns-5 t)

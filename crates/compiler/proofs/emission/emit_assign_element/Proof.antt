@@ -128,7 +128,7 @@ emit-store-requires c κs =
     let e = c .before .link3 .ensures in (
       omega arith,
       (
-        rw (c .before .before .before .before .before .before .before .cleared2 .ensures, c .before .before .before .before .before .before .before .before .before .before .before .before .before .before .cleared .ensures) (parts s .3),
+        omega (arith, parts s .3, parts s .0, ap length (c .before .before .before .before .before .before .before .cleared2 .ensures ∙ ap without (c .before .before .before .before .before .before .before .before .before .before .before .before .before .before .cleared .ensures))),
         room-assignAt (ρ s) (l s) (p s) (F s) (x s) (op s 2) (op s 3) (fits s) (past (ρ s) (op s 2) (c .before .before .before .before .before .before .before .before .before .before .before .before .before .before .before .lowest .result) (registersOf (c .before .before .before .before .before .before .before .before .before .before .before .before .before .before .cleared .result)) y) (past (ρ s) (op s 3) (c .before .before .before .before .before .before .before .before .lowest2 .result) (registersOf (c .before .before .before .before .before .before .before .cleared2 .result)) z),
       ),
     )
