@@ -2,19 +2,22 @@
 -- Assumes nothing.
 use mathlib.Core.Path.{_≡_}
 use mathlib.Core.Logic.{_↔_}
+use mathlib.Core.Bool.{cond}
 use mathlib.Core.List.{List}
-use Prim.Native.Nat.{ℕ, _*_, _≤_}
+use Prim.Native.Nat.{ℕ, _+_, _*_, _≤_}
 use lib.ListN.{length, getD, take}
 use Rattle.word.specs.Word.{Words, differenceOf}
 use Rattle.machine.specs.declared.Ending.the-variants.{Halted}
 use Rattle.machine.specs.Entry.{ended, stateOf, runEntry}
+use Rattle.rule.specs.Tree.{Exp, Com, while, Binding}
 use Rattle.rule.specs.Table.{bindingOf, program}
-use Rattle.correctness.specs.Meaning.{ruleMeaning}
+use Rattle.correctness.specs.Meaning.{done, fault, leftOf, _>>=_, _>>_, return, spend, truth, eval, exec, ruleMeaning}
 use Rattle.compiler.specs.Pool.{registersOf}
 use Rattle.compiler.specs.Answer.{accepted, refused, need, compiled, leaves}
 use Rattle.correctness.specs.Demand3.{AsMeant}
 use Rattle.correctness.specs.Halting.{HaltAlike, RuleHaltsSometime, RunHaltsSometime}
 use Rattle.correctness.specs.Choice.{ChoosesCom, EarlierPass}
+use Rattle.correctness.proofs.Meanings as L
 use Rattle.correctness.proofs.Eleven as E
 use Rattle.correctness.proofs.Meant.{meant}
 use Rattle.correctness.proofs.HaltsAlike as H
@@ -65,3 +68,24 @@ eleven-exactly = E.eleven-exactly
 
 pub eleven-says-need : (ds ns : List ℕ) (pool words k : ℕ) → compiled ds ns pool words ≡ refused 11 k → k ≡ need ds ns
 eleven-says-need = E.eleven-says-need
+
+-- The meaning, from the meaning alone: for all names, rules, memories and budgets
+
+-- While, turn by turn: the test, 1 step, then, if it is not 0, the body, 1 step and the while again, else nothing
+pub while-again : (ρ : ℕ → Binding) (e : Exp) (c : Com) (m : List ℕ) (b : ℕ)
+    → exec ρ (while e c) m b
+    ≡ (do
+      v ← eval ρ e
+      spend 1
+      cond (truth v) (exec ρ c >> spend 1 >> exec ρ (while e c)) (return tt)) m b
+while-again = L.while-again
+
+-- The budget left is never above the budget
+pub never-gains : (ρ : ℕ → Binding) (c : Com) (m : List ℕ) (b : ℕ) → leftOf (ruleMeaning ρ c m b) ≤ b
+never-gains = L.never-gains
+
+-- What halts or faults under a budget does so under every larger one, with the same fault, steps and memory: d more budget leaves d more
+pub ends-alike : (ρ : ℕ → Binding) (c : Com) (m m′ : List ℕ) (b l d : ℕ)
+    → (ruleMeaning ρ c m b ≡ done tt m′ l → ruleMeaning ρ c m (b + d) ≡ done tt m′ (l + d))
+    × ((n : ℕ) → ruleMeaning ρ c m b ≡ fault n m′ l → ruleMeaning ρ c m (b + d) ≡ fault n m′ (l + d))
+ends-alike = L.ends-alike

@@ -1,3 +1,5 @@
+pub mod Timed
+pub mod Meanings
 pub mod Frame
 pub mod Fits
 pub mod Sim
