@@ -1,10 +1,11 @@
--- The headline statements. Each name leads into the contract of `compile`, `step` or `run`.
+-- The headline statements. Each name leads into the contract of `compile`, `step` or `run`, but for the last three, of the meaning alone.
 -- Assumes nothing.
 use mathlib.Core.Path.{_≡_}
 use mathlib.Core.Logic.{_↔_}
 use mathlib.Core.Bool.{cond}
 use mathlib.Core.List.{List}
 use Prim.Native.Nat.{ℕ, _+_, _*_, _/_, _%_, _^_, _<_, _≤_}
+use native.Mathlib.Omega.{arith}
 use lib.ListN.{length, getD, take}
 use borrow.Author.Tests.{eq-eqb, le-leb}
 use Rattle.word.specs.Word.{Words, differenceOf}
@@ -23,6 +24,8 @@ use Rattle.correctness.specs.Halting.{HaltAlike, RuleHaltsSometime, RunH
 use Rattle.correctness.specs.Choice.{ChoosesCom, EarlierPass}
 use Rattle.correctness.proofs.Meanings as L
 use Rattle.correctness.proofs.Registers as P
+use Rattle.correctness.proofs.Acceptance.{bit-said}
+use Rattle.correctness.proofs.HostRegisters as K
 use Rattle.correctness.proofs.Eleven as E
 use Rattle.correctness.proofs.Meant.{meant}
 use Rattle.correctness.proofs.HaltsAlike as H
@@ -62,6 +65,22 @@ module _ (ds ns : List ℕ) (pool : ℕ) (code : List ℕ) (n c k : ℕ) (wd : W
     -- under the same budget, after as many steps, with the same memory, and then under every larger budget
     pub halts-alike : HaltAlike (bindingOf ds) (program ns) emitted R m
     halts-alike = H.halts-alike ds ns pool code n c k wd wn said R m registers cells
+
+  -- The host's registers. Whatever the place, the registers, the memory and the budget that a run of the code starts from, each register
+  -- outside the pool holds at its end what it held
+  pub host-registers-kept : (p : ℕ) (R m : List ℕ) (budget j : ℕ) → Free j (registersOf pool)
+      → getD (runEntry emitted m (stateOf p R) budget .state .registers) j 0 ≡ getD R j 0
+  host-registers-kept p R m = K.host-registers-kept ds ns pool code n c k said m (stateOf p R)
+
+  -- that is each of $0 to $63 whose bit is not set
+  pub clear-bit-kept : (p : ℕ) (R m : List ℕ) (budget j : ℕ) → j < 64 → (pool / 2 ^ j) % 2 ≡ 0
+      → getD (runEntry emitted m (stateOf p R) budget .state .registers) j 0 ≡ getD R j 0
+  clear-bit-kept p R m budget j h e = host-registers-kept p R m budget j (P.outside-exactly pool j h .1 e)
+
+  -- and $0's place, whose bit no accepted pool sets
+  pub zero-place-kept : (p : ℕ) (R m : List ℕ) (budget : ℕ)
+      → getD (runEntry emitted m (stateOf p R) budget .state .registers) 0 0 ≡ getD R 0 0
+  zero-place-kept p R m budget = clear-bit-kept p R m budget 0 (omega arith) (omega (arith, bit-said ds ns pool code n c k said))
 
 -- The offence of the minutes: x := a - (b - c), however it is compiled, leaves a - (b - c) in x, wrapped, for all a, b, c held in variables
 pub offset-kept : (pool : ℕ) (code : List ℕ) (n c k : ℕ) → compiled names rule pool (length code) ≡ accepted n c k → (R m : List ℕ) → length R ≡ 64

@@ -16,6 +16,7 @@ pub mod Program
 pub mod Tables
 pub mod Registers
 pub mod Acceptance
+pub mod HostRegisters
 pub mod Meant
 pub mod Lasting
 pub mod HaltsAlike
