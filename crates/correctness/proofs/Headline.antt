@@ -62,7 +62,7 @@ module _ (ds ns : List ℕ) (pool : ℕ) (code : List ℕ) (n c k : ℕ) (wd : W
           λ h. (h .0, h .1, h .2, h .3, a .rule-if-run (h .0) (h .2) (h .3) (h .4)),
         )
 
-    -- under the same budget, after as many steps, with the same memory, and then under every larger budget
+    -- each under the same budget as the other, after as many steps, with the same memory, and then under every larger budget
     pub halts-alike : HaltAlike (bindingOf ds) (program ns) emitted R m
     halts-alike = H.halts-alike ds ns pool code n c k wd wn said R m registers cells
 
