@@ -4,7 +4,7 @@ use mathlib.Core.Path.{_≡_, refl}
 use mathlib.Core.List.{List, [], _∷_, _++_}
 use Prim.Native.Nat.{ℕ, suc, _+_, _*_}
 use lib.ListN.{length, getD, take}
-use Rattle.instruction.specs.Instruction.{Instruction, ins, halt, addi, jmp, beq, assemble}
+use Rattle.instruction.specs.Instruction.{Instruction, ins, halt, jmp, beq, assemble}
 use Rattle.machine.specs.declared.State.{State}
 use Rattle.machine.specs.Entry.{runEntry}
 use Rattle.machine.proofs.Spared.{Spares, Other, spares-other, spares-jmp, spared-kept}
