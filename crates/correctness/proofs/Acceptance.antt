@@ -64,9 +64,12 @@ module _ (ds ns : List ℕ) (pool : ℕ) (code : List ℕ) (n c k : ℕ) (said :
       let v₇ = both-pass (enough (need ds ns) (length (registersOf pool))) _ (v₆ .1) in
       (v₁ .0, v₂ .0, v₃ .0, v₄ .0, v₅ .0, v₆ .0, v₇ .0, v₇ .1)
 
-  pub pool-said : Pool (registersOf pool)
+  pub bit-said : pool % 2 ≡ 0
   unfolding poolBit
-  pool-said = pool-registers pool (eqb-true (pool % 2) 0 (tested (eqb (pool % 2) 0) 3 0 (checks .2)))
+  bit-said = eqb-true (pool % 2) 0 (tested (eqb (pool % 2) 0) 3 0 (checks .2))
+
+  pub pool-said : Pool (registersOf pool)
+  pool-said = pool-registers pool bit-said
 
   pub need-enough : needCom (bindingOf ds) (program ns) ≤ length (registersOf pool)
   unfolding enough

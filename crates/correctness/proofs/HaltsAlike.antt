@@ -2,21 +2,22 @@
 -- Assumes nothing.
 use mathlib.Core.Path.{_≡_, _∙_, sym, ap}
 use mathlib.Core.List.{List}
-use Prim.Native.Nat.{ℕ, _-_, _*_, _≤_}
+use Prim.Native.Nat.{ℕ, _+_, _-_, _*_, _≤_}
 use native.Mathlib.Omega.{arith}
 use lib.ListN.{length, take}
 use Rattle.word.specs.Word.{Words}
 use Rattle.machine.specs.declared.Ending.the-variants.{Halted}
 use Rattle.machine.specs.Run.{Ran, runOf}
 use Rattle.machine.specs.Entry.{ended, Shown, stateOf, runShown, runEntry}
-use Rattle.machine.proofs.Entries.{run-left}
+use Rattle.rule.specs.Tree.{Com, Binding}
 use Rattle.rule.specs.Table.{bindingOf, program}
-use Rattle.correctness.specs.Meaning.{Outcome, done, fault, out, ruleMeaning}
+use Rattle.correctness.specs.Meaning.{Outcome, done, fault, out, leftOf, ruleMeaning}
 use Rattle.compiler.specs.Pool.{registersOf}
 use Rattle.compiler.specs.Answer.{accepted, compiled, leaves}
-use Rattle.correctness.specs.Demand3.{endingOf, leftOf, memoryOf, AsMeant}
+use Rattle.correctness.specs.Demand3.{endingOf, memoryOf, AsMeant}
 use Rattle.correctness.specs.Halting.{RuleHalts, RunHalts, HaltAlike}
-use Rattle.correctness.proofs.Meant.{run-entered, ran-as-meant, length-left, meant}
+use Rattle.correctness.proofs.Meanings.{never-gains, ends-alike}
+use Rattle.correctness.proofs.Meant.{run-entered, length-left, meant}
 use Rattle.correctness.proofs.Acceptance.{small-said}
 use Rattle.correctness.proofs.Lasting.{shown-more}
 
@@ -29,6 +30,17 @@ is-done (done _ m l) b s m′ h e f =
     (omega arith, ap (done tt m) i ∙ ap (λ (x : List ℕ). done tt x (b - s)) f)
 is-done (fault n m l) b s m′ h e f = let z : _≡_ {A = ℕ} 0 1 = cc in absurd (omega arith)
 is-done (out m) b s m′ h e f = let z : _≡_ {A = ℕ} 0 1 = cc in absurd (omega arith)
+
+-- a rule that is done under a budget is so under every larger one
+rule-lasts : (ρ : ℕ → Binding) (r : Com) (m : List ℕ) (b s : ℕ) (m′ : List ℕ) → RuleHalts ρ r m b s m′ → (d : ℕ) → b ≤ d → RuleHalts ρ r m d s m′
+rule-lasts ρ r m b s m′ h d l =
+    let w : s ≤ b = h .within in
+    let i : d ≡ b + (d - b) = omega arith in
+    let j : b - s + (d - b) ≡ d - s = omega arith in
+    record {
+      within = omega arith;
+      means = ap (ruleMeaning ρ r m) i ∙ ends-alike ρ r m m′ b (b - s) (d - b) .0 (h .means) ∙ ap (done tt m′) j;
+    }
 
 module _ (ds ns : List ℕ) (pool : ℕ) (code : List ℕ) (n c k : ℕ) (wd : Words ds) (wn : Words ns)
     (said : compiled ds ns pool (length code) ≡ accepted n c k)
@@ -57,9 +69,7 @@ module _ (ds ns : List ℕ) (pool : ℕ) (code : List ℕ) (n c k : ℕ) (wd : W
   rule-if-run : (b s : ℕ) (m′ : List ℕ) → RunHalts Code R m b s m′ → Rule b s m′
   rule-if-run b s m′ h =
       let o = ruleMeaning (bindingOf ds) (program ns) m b in
-      let e : runOf Code b 0 R m .left ≡ leftOf o = ran-as-meant ds ns pool code n c k wd wn said R m b registers .left in
-      let l : leftOf o ≤ b = omega (arith, run-left Code b 0 R m) in
-      let d = is-done o b s m′ l (sym (meant-at b .said) ∙ h .said) (sym (meant-at b .memory) ∙ h .memory) in
+      let d = is-done o b s m′ (never-gains (bindingOf ds) (program ns) m b) (sym (meant-at b .said) ∙ h .said) (sym (meant-at b .memory) ∙ h .memory) in
       record { within = d .0; means = d .1 }
 
   run-lasts : (b s : ℕ) (m′ : List ℕ) → RunHalts Code R m b s m′ → (d : ℕ) → b ≤ d → runEntry Code m (stateOf 0 R) d ≡ runEntry Code m (stateOf 0 R) b
@@ -69,12 +79,5 @@ module _ (ds ns : List ℕ) (pool : ℕ) (code : List ℕ) (n c k : ℕ) (wd : W
       let f : r .ending ≡ Halted = cc in
       entered d ∙ shown-more Code b d 0 R m l f ∙ sym (entered b)
 
-  rule-lasts : (b s : ℕ) (m′ : List ℕ) → Rule b s m′ → (d : ℕ) → b ≤ d → Rule d s m′
-  rule-lasts b s m′ h d l =
-      let x : RunHalts Code R m b s m′ = run-if-rule b s m′ h in
-      let e = run-lasts b s m′ x d l in
-      rule-if-run d s m′
-      (record { said = ap (λ (y : Shown). y .said) e ∙ x .said; memory = ap (λ (y : Shown). y .memory) e ∙ x .memory })
-
   pub halts-alike : HaltAlike (bindingOf ds) (program ns) (take (n * 4) (leaves ds ns pool code)) R m
-  halts-alike = record { run-if-rule = run-if-rule; rule-if-run = rule-if-run; run-lasts = run-lasts; rule-lasts = rule-lasts }
+  halts-alike = record { run-if-rule = run-if-rule; rule-if-run = rule-if-run; run-lasts = run-lasts; rule-lasts = rule-lasts (bindingOf ds) (program ns) m }

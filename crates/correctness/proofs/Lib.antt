@@ -1,3 +1,5 @@
+pub mod Timed
+pub mod Meanings
 pub mod Frame
 pub mod Fits
 pub mod Sim
@@ -14,6 +16,7 @@ pub mod Program
 pub mod Tables
 pub mod Registers
 pub mod Acceptance
+pub mod HostRegisters
 pub mod Meant
 pub mod Lasting
 pub mod HaltsAlike

@@ -40,7 +40,7 @@ shows F R budget o x h =
 module _ (ds ns : List ℕ) (pool : ℕ) (code : List ℕ) (n c k : ℕ) (wd : Words ds) (wn : Words ns)
     (said : compiled ds ns pool (length code) ≡ accepted n c k) where
   -- the run of the code that is left, with what it leaves of its budget
-  pub ran-as-meant : (R m : List ℕ) (budget : ℕ) → length R ≡ 64
+  ran-as-meant : (R m : List ℕ) (budget : ℕ) → length R ≡ 64
       → RanAsMeant (registersOf pool) R (ruleMeaning (bindingOf ds) (program ns) m budget) (runOf (take (n * 4) (leaves ds ns pool code)) budget 0 R m)
   ran-as-meant R m budget l =
       rw (code-left ds ns pool code n c k said)

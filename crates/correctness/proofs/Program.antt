@@ -8,9 +8,9 @@ use lib.ListN.{length, getD}
 use Rattle.instruction.specs.Instruction.{ins, halt, found, fetch, countOf, assemble}
 use Rattle.machine.specs.Run.{Ran, runOf}
 use Rattle.rule.specs.Tree.{Com, Binding}
-use Rattle.correctness.specs.Meaning.{Outcome, bind, spend, ruleMeaning}
+use Rattle.correctness.specs.Meaning.{Outcome, leftOf, bind, spend, ruleMeaning}
 use Rattle.compiler.specs.Compile.{sizeCom, needCom, Tprog}
-use Rattle.correctness.specs.Demand3.{Free, endingOf, leftOf, memoryOf}
+use Rattle.correctness.specs.Demand3.{Free, endingOf, memoryOf}
 use Rattle.correctness.proofs.Frame.{Pool}
 use Rattle.correctness.proofs.Fits.{Fit, WordsCom}
 use Rattle.correctness.proofs.Sim.{Sim, comes, faults, ends}

@@ -8,22 +8,18 @@ use Rattle.machine.specs.declared.Ending.{Ending}
 use Rattle.machine.specs.declared.Ending.the-variants.{Halted, Faulted, Unfinished}
 use Rattle.machine.specs.Entry.{ended, Shown}
 use Rattle.correctness.specs.Meaning.{Outcome, done, fault, out}
+pub use Rattle.correctness.specs.Meaning.{leftOf}
 
 -- k is none of the registers F
 abbrev pub Free : ℕ → List ℕ → Type 0
 Free k [] = Unit {0}
 Free k (t ∷ F) = ((k ≡ t) → ⊥) × Free k F
 
--- the ending, the budget left and the memory of a rule's outcome
+-- the ending and the memory of a rule's outcome
 abbrev pub endingOf : Outcome (Unit {0}) → Ending
 endingOf (done _ m b) = Halted
 endingOf (fault n m b) = Faulted n
 endingOf (out m) = Unfinished
-
-abbrev pub leftOf : Outcome (Unit {0}) → ℕ
-leftOf (done _ m b) = b
-leftOf (fault n m b) = b
-leftOf (out m) = 0
 
 abbrev pub memoryOf : Outcome (Unit {0}) → List ℕ
 memoryOf (done _ m b) = m

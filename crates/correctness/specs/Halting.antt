@@ -25,6 +25,13 @@ RuleHaltsSometime ρ c m = (b : ℕ) × (s : ℕ) × (m′ : List ℕ) × RuleHa
 abbrev pub RunHaltsSometime : List ℕ → List ℕ → List ℕ → Type 0
 RunHaltsSometime code R m = (b : ℕ) × (s : ℕ) × (m′ : List ℕ) × RunHalts code R m b s m′
 
+-- under some legal budget: "A budget is 0 to 4,294,967,295."
+abbrev pub RuleHaltsLegally : (ℕ → Binding) → Com → List ℕ → Type 0
+RuleHaltsLegally ρ c m = (b : ℕ) × (b ≤ 4294967295) × (s : ℕ) × (m′ : List ℕ) × RuleHalts ρ c m b s m′
+
+abbrev pub RunHaltsLegally : List ℕ → List ℕ → List ℕ → Type 0
+RunHaltsLegally code R m = (b : ℕ) × (b ≤ 4294967295) × (s : ℕ) × (m′ : List ℕ) × RunHalts code R m b s m′
+
 -- under a budget one halts exactly when the other does, after as many steps and with the same memory; and what has halted under a budget
 -- halts so under every larger one, where the run shows the same
 pub record HaltAlike (ρ : ℕ → Binding) (c : Com) (code R m : List ℕ) : Type 0 where

@@ -20,6 +20,12 @@ pub data Outcome (A : Type 0) : Type 0 where
   fault : ℕ → List ℕ → ℕ → Outcome A
   out : List ℕ → Outcome A
 
+-- the budget that an outcome leaves
+abbrev pub leftOf : {A : Type 0} → Outcome A → ℕ
+leftOf (done a m b) = b
+leftOf (fault n m b) = b
+leftOf (out m) = 0
+
 abbrev pub M : Type 0 → Type 0
 M A = List ℕ → ℕ → Outcome A
 

@@ -4,6 +4,7 @@ pub mod Places
 pub mod Entries
 pub mod Lengths
 pub mod Cleared
+pub mod Spared
 pub mod Singly
 pub mod Joined
 pub mod Outcomes
