@@ -1,3 +1,4 @@
+pub mod AtFault
 pub mod Timed
 pub mod Meanings
 pub mod Frame

@@ -53,7 +53,7 @@ fn branch(name: &[u8], a: u32, b: u32, to: u32) {
 }
 
 // The four words of an instruction.
-pub fn instruction(op: u32, a: u32, b: u32, c: u32) {
+pub(crate) fn instruction(op: u32, a: u32, b: u32, c: u32) {
     match op {
         instruction::HALT => text(b"halt"),
         instruction::NOP => text(b"nop"),

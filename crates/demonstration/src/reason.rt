@@ -62,7 +62,7 @@ fn returned(no: u32, value: u32, pool: u64) {
 }
 
 // A refusal's number, what was returned with it, and its reason.
-pub fn refusal(no: u32, value: u32, pool: u64) {
+pub(crate) fn refusal(no: u32, value: u32, pool: u64) {
     named(b"refusal ", no);
     returned(no, value, pool);
     text(b": ");
@@ -79,7 +79,7 @@ fn ending(e: Ending) {
 }
 
 // What a run came to, with the place that it left.
-pub fn ran(answer: RunAnswer, place: u32) {
+pub(crate) fn ran(answer: RunAnswer, place: u32) {
     text(b"    ");
     match answer {
         RunAnswer::Ended(e, steps) => {

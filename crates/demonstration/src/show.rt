@@ -1,16 +1,16 @@
 // What the demonstration prints: words and numbers, declarations, the pool, memory and registers.
 ghost use Prim.Native.Nat.{_<_};
 
-pub fn text(words: &[u8]) {
+pub(crate) fn text(words: &[u8]) {
     io::write_all(1, words);
 }
 
-pub fn number(n: u32) {
+pub(crate) fn number(n: u32) {
     io::print_decimal(1, n as u64);
 }
 
 // A word as the signed number that it stands for.
-pub fn signed(w: u32) {
+pub(crate) fn signed(w: u32) {
     if w < 2147483648 {
         number(w);
     } else {
@@ -20,18 +20,18 @@ pub fn signed(w: u32) {
 }
 
 // A number, and a signed one, after what it is.
-pub fn named(name: &[u8], n: u32) {
+pub(crate) fn named(name: &[u8], n: u32) {
     text(name);
     number(n);
 }
 
-pub fn named_word(name: &[u8], w: u32) {
+pub(crate) fn named_word(name: &[u8], w: u32) {
     text(name);
     signed(w);
 }
 
 // So many of a thing: " after 1 step", " after 2 steps".
-pub fn many(before: &[u8], n: u32, thing: &[u8]) {
+pub(crate) fn many(before: &[u8], n: u32, thing: &[u8]) {
     named(before, n);
     text(thing);
     if n != 1 {
@@ -48,14 +48,14 @@ fn two_places(n: u32, before: &[u8]) {
 }
 
 // A number at the front of a line.
-pub fn at_front(n: u32) {
+pub(crate) fn at_front(n: u32) {
     text(b"    ");
     two_places(n, b" ");
     text(b"  ");
 }
 
 // Seconds after midnight as hours, minutes and seconds.
-pub fn clock(seconds: u32) {
+pub(crate) fn clock(seconds: u32) {
     two_places(seconds / 3600, b"0");
     text(b":");
     two_places(seconds / 60 % 60, b"0");
@@ -91,7 +91,7 @@ fn member(bit: u64, register: u32) {
 }
 
 // The registers of a pool.
-pub fn pool(bits: u64) {
+pub(crate) fn pool(bits: u64) {
     let mut rest = bits;
     let mut register: u32 = 0;
     while register < 64 {
@@ -102,7 +102,7 @@ pub fn pool(bits: u64) {
 }
 
 // A memory of two cells.
-pub fn memory(cells: &[u32; 2]) {
+pub(crate) fn memory(cells: &[u32; 2]) {
     named_word(b" ", cells[0]);
     named_word(b" ", cells[1]);
     text(b"\n");
@@ -129,7 +129,7 @@ fn register(k: u32, w: u32) {
 }
 
 // All the registers.
-pub fn registers(words: &[u32; 64]) {
+pub(crate) fn registers(words: &[u32; 64]) {
     let mut k: u32 = 0;
     while k < 64 {
         register(k, words[k as usize]);

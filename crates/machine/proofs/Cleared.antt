@@ -16,7 +16,7 @@ use Rattle.machine.specs.declared.Next.{Next}
 use Rattle.machine.specs.declared.Next.the-variants.{Go, Halt, Fault}
 use Rattle.machine.specs.Step.{Did, did, writes, wroteRegisters, loads, stores, branches, flagOf, readOf, cellAt, rules, perform, tried, stepOf}
 use Rattle.machine.specs.Run.{Ran, ran, follow, runOf}
-use Rattle.machine.proofs.Places.{All, looked-up}
+use Rattle.machine.proofs.Spared.{IfFound, Spares, spares-other, step-kept, run-kept}
 
 -- where place 0 holds 0, a register reads as what it holds
 pub read-cleared : (g : List ℕ) (r : ℕ) → getD g 0 0 ≡ 0 → getD g r 0 ≡ readOf g r
@@ -31,42 +31,17 @@ pub cleared : (g : List ℕ) → getD (set g 0 0) 0 0 ≡ 0
 cleared [] = refl
 cleared (x ∷ g) = refl
 
--- a step keeps place 0
-module _ (n p : ℕ) (g m : List ℕ) where
-  abbrev Kept : Did → Type 0
-  Kept d = getD (d .registers) 0 0 ≡ getD g 0 0
+-- no step writes place 0
+spares-zero : (f : Fetched) → IfFound (Spares 0) f
+spares-zero outside = tt
+spares-zero unknown = tt
+spares-zero (found (ins o a b c)) = spares-other 0 (λ e. sym e)
 
-  wrote : (a v : ℕ) → getD (wroteRegisters a v g) 0 0 ≡ getD g 0 0
-  wrote a v = go (eqb a 0) refl
-    where
-      go : (t : Bool) → eqb a 0 ≡ t → getD (cond t g (set g a v)) 0 0 ≡ getD g 0 0
-      go true e = refl
-      go false e = getD-set-other g a 0 v 0 (λ q. eqb-false a 0 e (sym q))
+step-zero : (code : List ℕ) (p : ℕ) (g m : List ℕ) → getD (stepOf code p g m .registers) 0 0 ≡ getD g 0 0
+step-zero code = step-kept 0 code (λ p. spares-zero (fetch code p))
 
-  loaded : (a : ℕ) (x : Cell) → Kept (loads p a x g m)
-  loaded a (At i) = wrote a (getD m i 0)
-  loaded a Nowhere = refl
-
-  stored : (v : ℕ) (x : Cell) → Kept (stores p v x g m)
-  stored v (At i) = refl
-  stored v Nowhere = refl
-
-  performed : (i : Instruction) → Kept (perform n p g m i)
-  unfolding perform
-  performed (ins o a b c) = looked-up Kept (rules n p g m a b c) (did (Fault 2) g m) each refl o
-    where
-      each : All Kept (rules n p g m a b c)
-      each = (refl, (refl, (wrote a _, (wrote a _, (wrote a _, (wrote a _, (loaded a (cellAt g m b c), (stored (readOf g c) (cellAt g m a b), (refl, (refl, (refl, (wrote a _, tt))))))))))))
-
-  pub try-zero : (f : Fetched) → Kept (tried n p g m f)
-  unfolding tried
-  try-zero outside = refl
-  try-zero unknown = refl
-  try-zero (found i) = performed i
-
-pub step-zero : (code : List ℕ) (p : ℕ) (g m : List ℕ) → getD (stepOf code p g m .registers) 0 0 ≡ getD g 0 0
-unfolding stepOf
-step-zero code p g m = try-zero (countOf code) p g m (fetch code p)
+run-zero : (code : List ℕ) (k p : ℕ) (g m : List ℕ) → getD (runOf code k p g m .registers) 0 0 ≡ getD g 0 0
+run-zero code = run-kept 0 code (λ p. spares-zero (fetch code p))
 
 pub step-cleared : (code : List ℕ) (p : ℕ) (g m g′ m′ : List ℕ) (x : Next) → did x g′ m′ ≡ stepOf code p g m → getD g 0 0 ≡ 0
     → getD g′ 0 0 ≡ 0
@@ -191,21 +166,8 @@ pub step-over-zero : (code : List ℕ) (p v : ℕ) (g m : List ℕ) → stepOf c
 unfolding stepOf
 step-over-zero code p v g m = try-same (countOf code) p v g m (fetch code p)
 
--- nor does a run, which keeps it too
+-- nor does a run
 module _ (code : List ℕ) where
-  kept-on : (k p : ℕ) → ((q : ℕ) (g m : List ℕ) → getD (runOf code k q g m .registers) 0 0 ≡ getD g 0 0) → (x : Next) (g m : List ℕ)
-      → getD (follow (runOf code k) k p x g m .registers) 0 0 ≡ getD g 0 0
-  kept-on k p ih (Go q) g m = ih q g m
-  kept-on k p ih Halt g m = refl
-  kept-on k p ih (Fault f) g m = refl
-
-  pub run-zero : (k p : ℕ) (g m : List ℕ) → getD (runOf code k p g m .registers) 0 0 ≡ getD g 0 0
-  unfolding runOf
-  run-zero zero p g m = refl
-  run-zero (suc k) p g m =
-      let d : Did = stepOf code p g m in
-      kept-on k p (run-zero k) (d .next) (d .registers) (d .memory) ∙ step-zero code p g m
-
   same-on : (v k p : ℕ) → ((q : ℕ) (g m : List ℕ) → runOf code k q (set g 0 v) m ≡ ranWith v (runOf code k q g m)) → (x : Next) (g m : List ℕ)
       → follow (runOf code k) k p x (set g 0 v) m ≡ ranWith v (follow (runOf code k) k p x g m)
   same-on v k p ih (Go q) g m = ih q g m
@@ -226,4 +188,4 @@ module _ (code : List ℕ) where
       let f : Ran = runOf code k p g m in
       ap (ranWith (getD g 0 0)) (e ∙ run-over-zero v k p g m)
       ∙ ap (λ (l : List ℕ). ran (f .ending) (f .left) (f .place) l (f .memory))
-      (set-set (f .registers) 0 v (getD g 0 0) ∙ ap (set (f .registers) 0) (sym (run-zero k p g m)) ∙ set-getD (f .registers) 0 0)
+      (set-set (f .registers) 0 v (getD g 0 0) ∙ ap (set (f .registers) 0) (sym (run-zero code k p g m)) ∙ set-getD (f .registers) 0 0)

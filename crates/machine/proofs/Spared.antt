@@ -79,7 +79,7 @@ module _ (j : ℕ) where
     tried-kept n p g m unknown h = refl
     tried-kept n p g m (found i) h = h .kept n p g m
 
-    step-kept : (p : ℕ) (g m : List ℕ) → Kept g (stepOf code p g m .registers)
+    pub step-kept : (p : ℕ) (g m : List ℕ) → Kept g (stepOf code p g m .registers)
     unfolding stepOf
     step-kept p g m = tried-kept (countOf code) p g m (fetch code p) (spared p)
 
@@ -89,7 +89,7 @@ module _ (j : ℕ) where
     followed k p ih Halt g m = refl
     followed k p ih (Fault f) g m = refl
 
-    run-kept : (k p : ℕ) (g m : List ℕ) → Kept g (runOf code k p g m .registers)
+    pub run-kept : (k p : ℕ) (g m : List ℕ) → Kept g (runOf code k p g m .registers)
     unfolding runOf
     run-kept zero p g m = refl
     run-kept (suc k) p g m =

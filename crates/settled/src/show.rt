@@ -4,16 +4,16 @@ use machine::Ending;
 use machine::RunAnswer;
 use machine::StepAnswer;
 
-pub fn text(words: &[u8]) {
+pub(crate) fn text(words: &[u8]) {
     io::write_all(1, words);
 }
 
-pub fn number(n: u32) {
+pub(crate) fn number(n: u32) {
     io::print_decimal(1, n as u64);
 }
 
 // A word as the signed number that it stands for.
-pub fn signed(w: u32) {
+pub(crate) fn signed(w: u32) {
     if w < 2147483648 {
         number(w);
     } else {
@@ -23,12 +23,12 @@ pub fn signed(w: u32) {
 }
 
 // A number, and a signed one, after what it is.
-pub fn named(name: &[u8], n: u32) {
+pub(crate) fn named(name: &[u8], n: u32) {
     text(name);
     number(n);
 }
 
-pub fn named_word(name: &[u8], w: u32) {
+pub(crate) fn named_word(name: &[u8], w: u32) {
     text(name);
     signed(w);
 }
@@ -54,7 +54,7 @@ fn refusal(no: u32, value: u32) {
 }
 
 // A compilation's answer, to the end of the line. The number of instructions is handed back, 0 of a refused rule.
-pub fn compiled(answer: CompileAnswer) -> u32 {
+pub(crate) fn compiled(answer: CompileAnswer) -> u32 {
     match answer {
         CompileAnswer::Accepted(instructions, cells, need) => {
             many(b": accepted, ", instructions, b" instruction");
@@ -80,7 +80,7 @@ fn ending(e: Ending) {
     }
 }
 
-pub fn ran(answer: RunAnswer) {
+pub(crate) fn ran(answer: RunAnswer) {
     match answer {
         RunAnswer::Ended(e, steps) => {
             ending(e);
@@ -92,7 +92,7 @@ pub fn ran(answer: RunAnswer) {
 }
 
 // A step's answer, with the place that it left.
-pub fn stepped(answer: StepAnswer, place: u32) {
+pub(crate) fn stepped(answer: StepAnswer, place: u32) {
     match answer {
         StepAnswer::Went => named(b"went on to ", place),
         StepAnswer::Halted => text(b"halted"),
@@ -103,7 +103,7 @@ pub fn stepped(answer: StepAnswer, place: u32) {
 }
 
 // Cell 0, which is x, where there is one.
-pub fn x(memory: &[u32]) {
+pub(crate) fn x(memory: &[u32]) {
     if memory.len() == 0 {
         text(b"no cells");
     } else {
@@ -121,7 +121,7 @@ fn instruction(op: u32, a: u32, b: u32, c: u32) {
 }
 
 // The code's words, an instruction after the other.
-pub fn code(words: &[u32]) {
+pub(crate) fn code(words: &[u32]) {
     text(b"  code:");
     let mut at = 0;
     while at < words.len() / 4 {

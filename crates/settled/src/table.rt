@@ -13,7 +13,7 @@ pub(crate) fn put(nodes: &mut [u32; 4100], row: u32, kind: u32, a: u32, b: u32, 
 }
 
 // So many rows of four words, or instructions, at the front.
-pub fn front(words: &[u32], rows: u32) -> &[u32] {
+pub(crate) fn front(words: &[u32], rows: u32) -> &[u32] {
     let end = rows as usize * 4;
     if words.len() < end {
         return words;
@@ -22,12 +22,12 @@ pub fn front(words: &[u32], rows: u32) -> &[u32] {
 }
 
 // So many rows of the table.
-pub fn rows(nodes: &[u32; 4100], count: u32) -> &[u32] {
+pub(crate) fn rows(nodes: &[u32; 4100], count: u32) -> &[u32] {
     front(nodes, count)
 }
 
 // x := not not .. 0 with 1,021 nots: 1,023 rows, each the only child of the next.
-pub fn nots(nodes: &mut [u32; 4100]) {
+pub(crate) fn nots(nodes: &mut [u32; 4100]) {
     put(nodes, 0, rule::VALUE, 0, 0, 0);
     let mut row: u32 = 1;
     while row < 1022 {
@@ -38,7 +38,7 @@ pub fn nots(nodes: &mut [u32; 4100]) {
 }
 
 // x := 7 and 511 skips in 511 sequences, 1,024 rows. What came before is the first of each, or the second.
-pub fn sequences(nodes: &mut [u32; 4100], second: bool) {
+pub(crate) fn sequences(nodes: &mut [u32; 4100], second: bool) {
     put(nodes, 0, rule::VALUE, 7, 0, 0);
     put(nodes, 1, rule::ASSIGN, 0, 0, 0);
     let mut row: u32 = 2;
@@ -54,7 +54,7 @@ pub fn sequences(nodes: &mut [u32; 4100], second: bool) {
 }
 
 // 341 ifs, 1,024 rows. What came before is the then part of each, whose test is true.
-pub fn ifs(nodes: &mut [u32; 4100]) {
+pub(crate) fn ifs(nodes: &mut [u32; 4100]) {
     put(nodes, 0, rule::SKIP, 0, 0, 0);
     let mut row: u32 = 1;
     while row < 1023 {
