@@ -1,0 +1,37 @@
+//! The functions of the library, as `include/sauskinna.h` declares them.
+
+extern "C" {
+    pub fn sauskinna_version() -> u32;
+
+    pub fn sauskinna_compile(
+        declarations: *const i32,
+        declaration_words: usize,
+        nodes: *const i32,
+        node_words: usize,
+        pool: u64,
+        code: *mut i32,
+        code_words: usize,
+        answer: *mut [u32; 3],
+    ) -> u32;
+
+    pub fn sauskinna_step(
+        code: *const i32,
+        code_words: usize,
+        memory: *mut i32,
+        cells: usize,
+        place: *mut u32,
+        registers: *mut [i32; 64],
+        answer: *mut [u32; 3],
+    ) -> u32;
+
+    pub fn sauskinna_run(
+        code: *const i32,
+        code_words: usize,
+        memory: *mut i32,
+        cells: usize,
+        place: *mut u32,
+        registers: *mut [i32; 64],
+        budget: u32,
+        answer: *mut [u32; 3],
+    ) -> u32;
+}
