@@ -27,6 +27,10 @@ impl Compiled {
 /// Compiles a rule with a pool of registers, bit k for $k, and gives its code.
 ///
 /// The code may be run on a machine whose other registers are the host's: no run of it changes them.
+///
+/// # Errors
+///
+/// Refusals 1 to 11.
 pub fn compile(
     declarations: &[[i32; 2]],
     nodes: &[[i32; 4]],
@@ -41,6 +45,10 @@ pub fn compile(
 /// Compiles a rule into a buffer, where [`Compiled::code_words`] words then are its code; those beyond stay as they are.
 ///
 /// [`room`] says how many words are enough.
+///
+/// # Errors
+///
+/// Refusals 1 to 12.
 pub fn compile_into(
     declarations: &[[i32; 2]],
     nodes: &[[i32; 4]],
@@ -50,7 +58,11 @@ pub fn compile_into(
     compile_words(words(declarations), words(nodes), pool, code)
 }
 
-/// Compiles a rule whose rows are handed in as words, two a declaration and four a node, in any number.
+/// Compiles a rule as [`compile_into`] does, with its rows handed in as words, two a declaration and four a node.
+///
+/// # Errors
+///
+/// Refusals 1 to 12.
 pub fn compile_words(
     declarations: &[i32],
     nodes: &[i32],

@@ -58,6 +58,10 @@ impl Default for Machine {
 
 impl Machine {
     /// Takes steps until the code halts or faults, or the budget is spent.
+    ///
+    /// # Errors
+    ///
+    /// Refusals 13 and 14.
     pub fn run(&mut self, code: &[i32], memory: &mut [i32], budget: u32) -> Result<Ran, Refusal> {
         let mut answer = [0; 3];
         // SAFETY: each pointer comes with the length of its slice or points to a field of that length, and nothing overlaps
@@ -85,6 +89,10 @@ impl Machine {
     }
 
     /// Takes one step.
+    ///
+    /// # Errors
+    ///
+    /// Refusals 13 and 14.
     pub fn step(&mut self, code: &[i32], memory: &mut [i32]) -> Result<Stepped, Refusal> {
         let mut answer = [0; 3];
         // SAFETY: as in `run`.
