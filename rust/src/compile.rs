@@ -2,7 +2,7 @@
 
 use std::slice;
 
-use crate::constants::{room, ROWS};
+use crate::constants::{answer, room, ROWS};
 use crate::ffi;
 use crate::refusal::Refusal;
 
@@ -69,7 +69,7 @@ pub fn compile_words(
     pool: u64,
     code: &mut [i32],
 ) -> Result<Compiled, Refusal> {
-    let mut answer = [0; 3];
+    let mut answer = [0; answer::WORDS];
     // SAFETY: each pointer comes with the length of its slice, and nothing overlaps what is lent to be written.
     let number = unsafe {
         ffi::sauskinna_compile(
@@ -83,12 +83,11 @@ pub fn compile_words(
             &mut answer,
         )
     };
-    let [first, cells, need] = answer;
-    Refusal::unless_taken(number, first)?;
+    Refusal::unless_accepted(number, answer[answer::VALUE])?;
     Ok(Compiled {
-        instructions: first as usize,
-        cells: cells as usize,
-        need,
+        instructions: answer[answer::INSTRUCTIONS] as usize,
+        cells: answer[answer::CELLS] as usize,
+        need: answer[answer::NEED],
     })
 }
 

@@ -105,8 +105,28 @@ pub mod operation {
     pub const SLT: i32 = 11;
 }
 
-/// The first word that a step (0, 1, 2) and a run (1, 2, 3) answer in C; here they are [`Stepped`](crate::Stepped) and
-/// [`Ending`](crate::Ending).
+/// The words of an answer in C; here they are fields.
+pub mod answer {
+    /// Compile, accepted: instructions emitted.
+    pub const INSTRUCTIONS: usize = 0;
+    /// Compile, accepted: cells that the declarations take.
+    pub const CELLS: usize = 1;
+    /// Compile, accepted: registers that the rule needs.
+    pub const NEED: usize = 2;
+    /// Compile, refused: the refusal's value.
+    pub const VALUE: usize = 0;
+    /// Step, run: how it ended.
+    pub const ENDING: usize = 0;
+    /// Step, run: the fault's number, or 0.
+    pub const FAULT: usize = 1;
+    /// Step, run: steps taken.
+    pub const STEPS: usize = 2;
+    /// The words that there are.
+    pub const WORDS: usize = 3;
+}
+
+/// Endings in C: a step answers one of the first three, a run one of the last three. Here they are
+/// [`Stepped`](crate::Stepped) and [`Ending`](crate::Ending).
 pub mod ending {
     /// A step went on.
     pub const WENT_ON: u32 = 0;
@@ -117,3 +137,9 @@ pub mod ending {
     /// The budget of a run is spent.
     pub const UNFINISHED: u32 = 3;
 }
+
+/// What a call returns in C that is not refused.
+pub const ACCEPTED: u32 = 0;
+
+/// The fault's number in an answer without one.
+pub const NO_FAULT: u32 = 0;

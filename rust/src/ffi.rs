@@ -1,5 +1,10 @@
 //! The functions of the library, as `include/sauskinna.h` declares them.
 
+use crate::constants::{answer, REGISTERS};
+
+/// What a call answers, beside the number that it returns.
+pub type Answer = [u32; answer::WORDS];
+
 extern "C" {
     pub fn sauskinna_version() -> u32;
 
@@ -11,7 +16,7 @@ extern "C" {
         pool: u64,
         code: *mut i32,
         code_words: usize,
-        answer: *mut [u32; 3],
+        answer: *mut Answer,
     ) -> u32;
 
     pub fn sauskinna_step(
@@ -20,8 +25,8 @@ extern "C" {
         memory: *mut i32,
         cells: usize,
         place: *mut u32,
-        registers: *mut [i32; 64],
-        answer: *mut [u32; 3],
+        registers: *mut [i32; REGISTERS],
+        answer: *mut Answer,
     ) -> u32;
 
     pub fn sauskinna_run(
@@ -30,8 +35,8 @@ extern "C" {
         memory: *mut i32,
         cells: usize,
         place: *mut u32,
-        registers: *mut [i32; 64],
+        registers: *mut [i32; REGISTERS],
         budget: u32,
-        answer: *mut [u32; 3],
+        answer: *mut Answer,
     ) -> u32;
 }

@@ -47,10 +47,7 @@ mod machine;
 mod refusal;
 
 pub use compile::{compile, compile_into, compile_words, Compiled};
-pub use constants::{
-    declaration, ending, node, operation, room, CELLS, CODE_WORDS, DECLARATIONS, REGISTERS, ROWS,
-    STACK, VERSION,
-};
+pub use constants::*;
 pub use fault::Fault;
 pub use machine::{Ending, Machine, Ran, Stepped};
 pub use refusal::{Reason, Refusal};

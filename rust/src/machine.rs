@@ -1,6 +1,6 @@
 //! Running code.
 
-use crate::constants::{ending, REGISTERS};
+use crate::constants::{answer, ending, REGISTERS};
 use crate::fault::Fault;
 use crate::ffi;
 use crate::refusal::Refusal;
@@ -63,7 +63,7 @@ impl Machine {
     ///
     /// Refusals 13 and 14.
     pub fn run(&mut self, code: &[i32], memory: &mut [i32], budget: u32) -> Result<Ran, Refusal> {
-        let mut answer = [0; 3];
+        let mut answer = [0; answer::WORDS];
         // SAFETY: each pointer comes with the length of its slice or points to a field of that length, and nothing overlaps
         // what is lent to be written.
         let number = unsafe {
@@ -78,14 +78,15 @@ impl Machine {
                 &mut answer,
             )
         };
-        Refusal::unless_taken(number, 0)?;
-        let [first, fault, steps] = answer;
-        let ending = match first {
-            ending::HALTED => Ending::Halted,
-            ending::FAULTED => Ending::Faulted(fault.into()),
-            _ => Ending::Unfinished,
-        };
-        Ok(Ran { ending, steps })
+        Refusal::unless_accepted(number, 0)?;
+        Ok(Ran {
+            ending: match answer[answer::ENDING] {
+                ending::HALTED => Ending::Halted,
+                ending::FAULTED => Ending::Faulted(answer[answer::FAULT].into()),
+                _ => Ending::Unfinished,
+            },
+            steps: answer[answer::STEPS],
+        })
     }
 
     /// Takes one step.
@@ -94,7 +95,7 @@ impl Machine {
     ///
     /// Refusals 13 and 14.
     pub fn step(&mut self, code: &[i32], memory: &mut [i32]) -> Result<Stepped, Refusal> {
-        let mut answer = [0; 3];
+        let mut answer = [0; answer::WORDS];
         // SAFETY: as in `run`.
         let number = unsafe {
             ffi::sauskinna_step(
@@ -107,11 +108,10 @@ impl Machine {
                 &mut answer,
             )
         };
-        Refusal::unless_taken(number, 0)?;
-        let [first, fault, _] = answer;
-        Ok(match first {
+        Refusal::unless_accepted(number, 0)?;
+        Ok(match answer[answer::ENDING] {
             ending::HALTED => Stepped::Halted,
-            ending::FAULTED => Stepped::Faulted(fault.into()),
+            ending::FAULTED => Stepped::Faulted(answer[answer::FAULT].into()),
             _ => Stepped::Went,
         })
     }

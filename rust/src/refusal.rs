@@ -3,6 +3,8 @@
 use std::error::Error;
 use std::fmt;
 
+use crate::constants::ACCEPTED;
+
 numbered! {
     /// Why a call was refused. [`Refusal::value`] says more from 4 to 12: a row, or what is needed.
     Reason {
@@ -38,10 +40,10 @@ impl Refusal {
         self.reason.number()
     }
 
-    /// What a call says that returned this number, where 0 is no refusal.
-    pub(crate) fn unless_taken(number: u32, value: u32) -> Result<(), Self> {
+    /// What a call says that returned this number.
+    pub(crate) fn unless_accepted(number: u32, value: u32) -> Result<(), Self> {
         match number {
-            0 => Ok(()),
+            ACCEPTED => Ok(()),
             _ => Err(Self {
                 reason: number.into(),
                 value,

@@ -1,7 +1,6 @@
 //! Holds the package's constants to include/sauskinna.h. Nothing of the library is called.
 
-use sauskinna::{declaration, ending, node, operation, room};
-use sauskinna::{CELLS, CODE_WORDS, DECLARATIONS, REGISTERS, ROWS, STACK, VERSION};
+use sauskinna::*;
 
 /// Every constant of the header, without its prefix, and the package's value for it.
 const KNOWN: &[(&str, i64)] = &[
@@ -48,6 +47,38 @@ const KNOWN: &[(&str, i64)] = &[
     ("HALTED", ending::HALTED as i64),
     ("FAULTED", ending::FAULTED as i64),
     ("UNFINISHED", ending::UNFINISHED as i64),
+    ("ACCEPTED", ACCEPTED as i64),
+    ("REFUSED_NODE_WORDS", Reason::NodeWords.number() as i64),
+    (
+        "REFUSED_DECLARATION_WORDS",
+        Reason::DeclarationWords.number() as i64,
+    ),
+    ("REFUSED_POOL", Reason::Pool.number() as i64),
+    ("REFUSED_DECLARATION", Reason::Declaration.number() as i64),
+    ("REFUSED_CELLS", Reason::Cells.number() as i64),
+    ("REFUSED_NODE", Reason::Node.number() as i64),
+    ("REFUSED_SORT", Reason::Sort.number() as i64),
+    ("REFUSED_NAME", Reason::Name.number() as i64),
+    ("REFUSED_NAME_KIND", Reason::NameKind.number() as i64),
+    ("REFUSED_USES", Reason::Uses.number() as i64),
+    ("REFUSED_REGISTERS", Reason::Registers.number() as i64),
+    ("REFUSED_ROOM", Reason::Room.number() as i64),
+    ("REFUSED_CODE_WORDS", Reason::CodeWords.number() as i64),
+    ("REFUSED_MEMORY", Reason::Memory.number() as i64),
+    ("NO_FAULT", NO_FAULT as i64),
+    ("FAULT_PLACE", Fault::Place.number() as i64),
+    ("FAULT_INSTRUCTION", Fault::Instruction.number() as i64),
+    ("FAULT_ZERO", Fault::Zero.number() as i64),
+    ("FAULT_ADDRESS", Fault::Address.number() as i64),
+    ("FAULT_LABEL", Fault::Label.number() as i64),
+    ("ANSWER_INSTRUCTIONS", answer::INSTRUCTIONS as i64),
+    ("ANSWER_CELLS", answer::CELLS as i64),
+    ("ANSWER_NEED", answer::NEED as i64),
+    ("ANSWER_VALUE", answer::VALUE as i64),
+    ("ANSWER_ENDING", answer::ENDING as i64),
+    ("ANSWER_FAULT", answer::FAULT as i64),
+    ("ANSWER_STEPS", answer::STEPS as i64),
+    ("ANSWER_WORDS", answer::WORDS as i64),
 ];
 
 const PREFIX: &str = "SAUSKINNA_";
