@@ -83,7 +83,7 @@ impl Machine {
             ending: match answer[answer::ENDING] {
                 ending::HALTED => Ending::Halted,
                 ending::FAULTED => Ending::Faulted(answer[answer::FAULT].into()),
-                _ => Ending::Unfinished,
+                _ => Ending::Unfinished, // a run answers nothing else
             },
             steps: answer[answer::STEPS],
         })
@@ -112,7 +112,7 @@ impl Machine {
         Ok(match answer[answer::ENDING] {
             ending::HALTED => Stepped::Halted,
             ending::FAULTED => Stepped::Faulted(answer[answer::FAULT].into()),
-            _ => Stepped::Went,
+            _ => Stepped::Went, // a step answers nothing else
         })
     }
 }
