@@ -2,179 +2,9 @@
 
 use std::process::ExitCode;
 
-/// The library behind safe functions: a slice for each pointer and count, a result for each refusal.
-mod sauskinna {
-    pub const VARIABLE: i32 = 2;
-    pub const CONSTANT: i32 = 1;
-    pub const IDENTIFIER: i32 = 2;
-    pub const PLUS: i32 = 4;
-    pub const MINUS: i32 = 5;
-    pub const TIMES: i32 = 6;
-    pub const ASSIGN: i32 = 17;
-
-    extern "C" {
-        fn sauskinna_compile(
-            declarations: *const i32,
-            declaration_words: usize,
-            nodes: *const i32,
-            node_words: usize,
-            pool: u64,
-            code: *mut i32,
-            code_words: usize,
-            answer: *mut [u32; 3],
-        ) -> u32;
-        fn sauskinna_step(
-            code: *const i32,
-            code_words: usize,
-            memory: *mut i32,
-            cells: usize,
-            place: *mut u32,
-            registers: *mut [i32; 64],
-            answer: *mut [u32; 3],
-        ) -> u32;
-        fn sauskinna_run(
-            code: *const i32,
-            code_words: usize,
-            memory: *mut i32,
-            cells: usize,
-            place: *mut u32,
-            registers: *mut [i32; 64],
-            budget: u32,
-            answer: *mut [u32; 3],
-        ) -> u32;
-    }
-
-    /// A refusal's number, and for a compilation the value returned with it.
-    #[derive(Debug, PartialEq)]
-    pub struct Refusal {
-        pub number: u32,
-        pub value: u32,
-    }
-
-    #[derive(Debug)]
-    pub struct Compiled {
-        pub code: Vec<i32>,
-        pub cells: usize,
-        pub need: u32,
-    }
-
-    #[derive(Debug, PartialEq)]
-    pub enum Ending {
-        Halted,
-        Faulted(u32),
-        Unfinished,
-    }
-
-    /// The place and the registers: what a run leaves and takes up again.
-    pub struct Machine {
-        pub place: u32,
-        pub registers: [i32; 64],
-    }
-
-    fn taken(number: u32, value: u32) -> Result<(), Refusal> {
-        if number == 0 {
-            Ok(())
-        } else {
-            Err(Refusal { number, value })
-        }
-    }
-
-    /// Compiles a rule with a pool of registers, bit k for $k.
-    pub fn compile(
-        declarations: &[[i32; 2]],
-        nodes: &[[i32; 4]],
-        pool: u64,
-    ) -> Result<Compiled, Refusal> {
-        let declarations = declarations.concat();
-        let nodes = nodes.concat();
-        let mut code = vec![0; 4 * nodes.len() + 4];
-        let mut answer = [0; 3];
-        // SAFETY: every pointer comes with the length of its own live buffer, and no two overlap.
-        let number = unsafe {
-            sauskinna_compile(
-                declarations.as_ptr(),
-                declarations.len(),
-                nodes.as_ptr(),
-                nodes.len(),
-                pool,
-                code.as_mut_ptr(),
-                code.len(),
-                &mut answer,
-            )
-        };
-        let [instructions, cells, need] = answer;
-        taken(number, instructions)?;
-        code.truncate(4 * instructions as usize);
-        Ok(Compiled {
-            code,
-            cells: cells as usize,
-            need,
-        })
-    }
-
-    impl Machine {
-        /// Runs under a budget; gives the ending and the steps taken.
-        pub fn run(
-            &mut self,
-            code: &[i32],
-            memory: &mut [i32],
-            budget: u32,
-        ) -> Result<(Ending, u32), Refusal> {
-            let mut answer = [0; 3];
-            // SAFETY: as in `compile`; the place and the registers are fields of their own.
-            let number = unsafe {
-                sauskinna_run(
-                    code.as_ptr(),
-                    code.len(),
-                    memory.as_mut_ptr(),
-                    memory.len(),
-                    &mut self.place,
-                    &mut self.registers,
-                    budget,
-                    &mut answer,
-                )
-            };
-            taken(number, 0)?;
-            Ok((ending(answer).unwrap_or(Ending::Unfinished), answer[2]))
-        }
-
-        /// Takes one step; gives the ending, if it was one, and the steps taken.
-        pub fn step(
-            &mut self,
-            code: &[i32],
-            memory: &mut [i32],
-        ) -> Result<(Option<Ending>, u32), Refusal> {
-            let mut answer = [0; 3];
-            // SAFETY: as in `run`.
-            let number = unsafe {
-                sauskinna_step(
-                    code.as_ptr(),
-                    code.len(),
-                    memory.as_mut_ptr(),
-                    memory.len(),
-                    &mut self.place,
-                    &mut self.registers,
-                    &mut answer,
-                )
-            };
-            taken(number, 0)?;
-            Ok((ending(answer), answer[2]))
-        }
-    }
-
-    fn ending(answer: [u32; 3]) -> Option<Ending> {
-        match answer[0] {
-            1 => Some(Ending::Halted),
-            2 => Some(Ending::Faulted(answer[1])),
-            _ => None,
-        }
-    }
-}
-
-use sauskinna::{
-    compile, Compiled, Ending, Machine, Refusal, ASSIGN, CONSTANT, IDENTIFIER, MINUS, PLUS, TIMES,
-    VARIABLE,
-};
+use sauskinna::declaration::{CONSTANT, VARIABLE};
+use sauskinna::node::{ASSIGN, IDENTIFIER, MINUS, PLUS, TIMES};
+use sauskinna::{compile, Ending, Machine, Reason, Refusal, Stepped, REGISTERS};
 
 // The rule: cut_over := local_time - (zone_hours * 3600 + zone_minutes * 60).
 const LOCAL_TIME: usize = 0;
@@ -240,42 +70,44 @@ fn own_value(k: usize) -> i32 {
 
 fn own_registers_untouched(machine: &Machine) -> bool {
     let own = |k: usize| machine.registers[k] == own_value(k);
-    own(0) && (FIRST_OWN..64).all(own)
+    own(0) && (FIRST_OWN..REGISTERS).all(own)
 }
 
 // Runs the rule in slots until it ends; gives the steps and the slots, if it halts.
 fn run_in_slots(
-    rule: &Compiled,
+    code: &[i32],
     machine: &mut Machine,
     memory: &mut [i32],
 ) -> Result<Option<(u32, u32)>, Refusal> {
     let mut steps = 0;
     machine.place = 0;
     for slot in 1..=SLOTS {
-        let (ending, taken) = machine.run(&rule.code, memory, SLOT)?;
-        steps += taken;
-        if ending != Ending::Unfinished {
-            return Ok((ending == Ending::Halted).then_some((steps, slot)));
+        let ran = machine.run(code, memory, SLOT)?;
+        steps += ran.steps;
+        match ran.ending {
+            Ending::Unfinished => {}
+            Ending::Halted => return Ok(Some((steps, slot))),
+            Ending::Faulted(_) => return Ok(None),
         }
     }
     Ok(None)
 }
 
-// Takes single steps until the rule ends; gives their number, if it halts.
+// Takes single steps until the rule ends, as many as the slots have; gives their number, if it halts.
 fn run_by_steps(
-    rule: &Compiled,
+    code: &[i32],
     machine: &mut Machine,
     memory: &mut [i32],
 ) -> Result<Option<u32>, Refusal> {
-    let mut steps = 0;
     machine.place = 0;
-    loop {
-        let (ending, taken) = machine.step(&rule.code, memory)?;
-        steps += taken;
-        if let Some(ending) = ending {
-            return Ok((ending == Ending::Halted).then_some(steps));
+    for steps in 1..=SLOT * SLOTS {
+        match machine.step(code, memory)? {
+            Stepped::Went => {}
+            Stepped::Halted => return Ok(Some(steps)),
+            Stepped::Faulted(_) => return Ok(None),
         }
     }
+    Ok(None)
 }
 
 fn clock(seconds: i32) -> String {
@@ -288,11 +120,11 @@ fn clock(seconds: i32) -> String {
 }
 
 // One epoch, in slots and then again in single steps.
-fn run_epoch(rule: &Compiled, machine: &mut Machine, epoch: &Epoch) -> Result<bool, Refusal> {
+fn run_epoch(code: &[i32], machine: &mut Machine, epoch: &Epoch) -> Result<bool, Refusal> {
     let mut memory = epoch.memory();
     let mut again = epoch.memory();
-    let ran = run_in_slots(rule, machine, &mut memory)?;
-    let stepped = run_by_steps(rule, machine, &mut again)?;
+    let ran = run_in_slots(code, machine, &mut memory)?;
+    let stepped = run_by_steps(code, machine, &mut again)?;
     let (steps, slots) = ran.unwrap_or((0, SLOTS));
     let right = ran.is_some()
         && stepped == Some(steps)
@@ -315,27 +147,27 @@ fn run_epoch(rule: &Compiled, machine: &mut Machine, epoch: &Epoch) -> Result<bo
 fn show_refusal() -> bool {
     match compile(&DECLARATIONS, &NODES, 0xe) {
         Ok(_) => false,
-        Err(Refusal { number, value }) => {
-            println!("with a pool of 3: refusal {number}, too few registers, {value} needed");
-            number == 11
+        Err(refusal) => {
+            println!("with a pool of 3: {refusal}");
+            refusal.reason == Reason::Registers
         }
     }
 }
 
 fn run_station() -> Result<bool, Refusal> {
-    let rule = compile(&DECLARATIONS, &NODES, POOL)?;
+    let (code, compiled) = compile(&DECLARATIONS, &NODES, POOL)?;
     println!(
         "compiled: {} instructions, {} cells, {} registers of the pool's {}",
-        rule.code.len() / 4,
-        rule.cells,
-        rule.need,
+        compiled.instructions,
+        compiled.cells,
+        compiled.need,
         POOL.count_ones(),
     );
     let mut machine = Machine {
         place: 0,
         registers: std::array::from_fn(own_value),
     };
-    let mut fine = rule.cells == 4;
+    let mut fine = compiled.cells == 4;
     let epochs = [
         (36000, 0, 0),
         (41400, 5, 45),
@@ -345,7 +177,7 @@ fn run_station() -> Result<bool, Refusal> {
     ];
     for (local_time, zone_hours, zone_minutes) in epochs {
         fine &= run_epoch(
-            &rule,
+            &code,
             &mut machine,
             &Epoch {
                 local_time,
@@ -368,7 +200,7 @@ fn main() -> ExitCode {
             ExitCode::FAILURE
         }
         Err(refusal) => {
-            println!("station (Rust): {refusal:?}");
+            println!("station (Rust): {refusal}");
             ExitCode::FAILURE
         }
     }
