@@ -63,28 +63,28 @@ static int32_t own_value(int k)
 /* Compiles the rule and says what came of it. */
 static int prepare(struct station *s)
 {
-    uint32_t answer[3];
+    uint32_t answer[SAUSKINNA_ANSWER_WORDS];
     uint32_t refusal = sauskinna_compile(declarations, DECLARATION_WORDS, nodes, NODE_WORDS, pool, s->code, CODE_WORDS, answer);
-    if (refusal != 0) {
-        printf("the rule is refused with number %" PRIu32 ", value %" PRIu32 "\n", refusal, answer[0]);
+    if (refusal != SAUSKINNA_ACCEPTED) {
+        printf("the rule is refused with number %" PRIu32 ", value %" PRIu32 "\n", refusal, answer[SAUSKINNA_ANSWER_VALUE]);
         return 0;
     }
-    printf("compiled: %" PRIu32 " instructions, %" PRIu32 " cells, %" PRIu32 " registers of the pool's 23\n", answer[0], answer[1],
-           answer[2]);
-    s->code_words = 4 * (size_t)answer[0];
+    printf("compiled: %" PRIu32 " instructions, %" PRIu32 " cells, %" PRIu32 " registers of the pool's 23\n",
+           answer[SAUSKINNA_ANSWER_INSTRUCTIONS], answer[SAUSKINNA_ANSWER_CELLS], answer[SAUSKINNA_ANSWER_NEED]);
+    s->code_words = 4 * (size_t)answer[SAUSKINNA_ANSWER_INSTRUCTIONS];
     for (int k = 0; k < SAUSKINNA_REGISTERS; k++)
         s->registers[k] = own_value(k);
-    return answer[1] == CELLS;
+    return answer[SAUSKINNA_ANSWER_CELLS] == CELLS;
 }
 
 /* A pool of three registers is too small, and the refusal says how many it takes. */
 static int show_refusal(void)
 {
     int32_t code[CODE_WORDS];
-    uint32_t answer[3];
+    uint32_t answer[SAUSKINNA_ANSWER_WORDS];
     uint32_t refusal = sauskinna_compile(declarations, DECLARATION_WORDS, nodes, NODE_WORDS, 0xe, code, CODE_WORDS, answer);
-    printf("with a pool of 3: refusal %" PRIu32 ", too few registers, %" PRIu32 " needed\n", refusal, answer[0]);
-    return refusal == 11;
+    printf("with a pool of 3: refusal %" PRIu32 ", too few registers, %" PRIu32 " needed\n", refusal, answer[SAUSKINNA_ANSWER_VALUE]);
+    return refusal == SAUSKINNA_REFUSED_REGISTERS;
 }
 
 static void begin(struct station *s, const struct epoch *e)
@@ -96,30 +96,32 @@ static void begin(struct station *s, const struct epoch *e)
     s->place = 0;
 }
 
-/* Runs the rule in slots until it ends; gives the steps, or 0 if it does not halt. */
+/* Runs the rule in slots until it ends; gives the steps, or 0 if it does not halt in them. */
 static uint32_t run_in_slots(struct station *s, int *slots)
 {
-    uint32_t steps = 0, answer[3];
+    uint32_t steps = 0, answer[SAUSKINNA_ANSWER_WORDS];
     for (*slots = 1; *slots <= SLOTS; ++*slots) {
-        if (sauskinna_run(s->code, s->code_words, s->memory, CELLS, &s->place, s->registers, SLOT, answer) != 0)
+        if (sauskinna_run(s->code, s->code_words, s->memory, CELLS, &s->place, s->registers, SLOT, answer) != SAUSKINNA_ACCEPTED)
             return 0;
-        steps += answer[2];
-        if (answer[0] != SAUSKINNA_UNFINISHED)
-            return answer[0] == SAUSKINNA_HALTED ? steps : 0;
+        steps += answer[SAUSKINNA_ANSWER_STEPS];
+        if (answer[SAUSKINNA_ANSWER_ENDING] != SAUSKINNA_UNFINISHED)
+            return answer[SAUSKINNA_ANSWER_ENDING] == SAUSKINNA_HALTED ? steps : 0;
     }
     return 0;
 }
 
-/* Takes single steps until the rule ends; gives their number, or 0 if it does not halt. */
+/* Takes single steps, as many as all slots have, until the rule ends; gives their number, or 0 if it does not halt. */
 static uint32_t run_by_steps(struct station *s)
 {
-    uint32_t steps = 0, answer[3];
-    do {
-        if (sauskinna_step(s->code, s->code_words, s->memory, CELLS, &s->place, s->registers, answer) != 0)
+    uint32_t steps = 0, answer[SAUSKINNA_ANSWER_WORDS];
+    for (int i = 0; i < SLOT * SLOTS; i++) {
+        if (sauskinna_step(s->code, s->code_words, s->memory, CELLS, &s->place, s->registers, answer) != SAUSKINNA_ACCEPTED)
             return 0;
-        steps += answer[2];
-    } while (answer[0] == SAUSKINNA_WENT_ON);
-    return answer[0] == SAUSKINNA_HALTED ? steps : 0;
+        steps += answer[SAUSKINNA_ANSWER_STEPS];
+        if (answer[SAUSKINNA_ANSWER_ENDING] != SAUSKINNA_WENT_ON)
+            return answer[SAUSKINNA_ANSWER_ENDING] == SAUSKINNA_HALTED ? steps : 0;
+    }
+    return 0;
 }
 
 static int own_registers_untouched(const struct station *s)
@@ -157,6 +159,10 @@ static int run_epoch(struct station *s, const struct epoch *e)
 
 int main(void)
 {
+    if (sauskinna_version() != SAUSKINNA_VERSION) {
+        puts("station (C): the archive and the header are of different versions");
+        return EXIT_FAILURE;
+    }
     static const struct epoch epochs[] = {
         {36000, 0, 0}, {41400, 5, 45}, {25200, -3, -30}, {61200, 9, 30}, {32399, 1, 0},
     };

@@ -20,16 +20,25 @@ extern "C" {
  *           Pointers are aligned as their type asks, not NULL (even where a
  *           length is 0), and no buffer that is written overlaps another.
  *           That is all that is asked: any length and any content is taken.
- * Answer    answer[3] is always written, all three words.
+ * Answer    answer is always written, all three words.
  * Return    0, or the number of a refusal. A refused call changes nothing but
  *           the answer: no code word, no cell, no register, not the place.
  * Threads   There is no state between calls. Calls from several threads need
  *           no lock as long as their buffers are their own; what is const may
  *           be shared.
- * Stack     A rule is compiled by recursion, at most one call per node row.
+ * Stack     A rule is compiled by recursion. SAUSKINNA_STACK bytes of stack are
+ *           enough for any call, SAUSKINNA_STACK_RUN for step and run.
  * Time      Compiling takes time in proportion to the rows handed in; a run,
  *           to its steps.
+ * Linking   The archive asks for memcpy and memset, and for nothing else.
  */
+
+/*
+ * The version of this header, first number times 1,000 plus second: 1.0. A
+ * program that was built with one header and linked with another's archive sees
+ * it by comparing this with what sauskinna_version returns.
+ */
+#define SAUSKINNA_VERSION 1000
 
 /* Limits. */
 #define SAUSKINNA_DECLARATIONS 256  /* declaration rows, two words each */
@@ -43,6 +52,24 @@ extern "C" {
  * gives at most four instructions of four words, and the end one more.
  */
 #define SAUSKINNA_ROOM(rows) (16 * (size_t)(rows) + 4)
+
+/*
+ * Bytes of stack, from the caller's frame on, that are enough whatever is
+ * handed in. As measured on x86-64, compile takes 2,719 for a rule of two rows
+ * and for each level of nesting
+ *
+ *                                          need   size   code
+ *   sequence, if, while                      96     96    304
+ *   binary, not, element                     64     64    192
+ *
+ * in the three passes that work out the registers needed and the instructions
+ * and then emit them, one after the other. The deepest rule (480 commands
+ * within each other around 62 nots) takes 160,543. Step and run take 231. The
+ * rest is a reserve. What the system keeps on a thread's stack (3 to 5 KB with
+ * glibc) comes on top, and so do handlers of signals that run on it.
+ */
+#define SAUSKINNA_STACK 163840  /* any call */
+#define SAUSKINNA_STACK_RUN 512 /* step and run */
 
 /* Declarations: (kind, value). Cells are given out from address 0 in row order. */
 enum sauskinna_declaration {
@@ -95,7 +122,19 @@ enum sauskinna_operation {
     SAUSKINNA_SLT = 11   /* a b c: $a = 1 if $b < $c, else 0 */
 };
 
-/* The first word that step (0, 1, 2) and run (1, 2, 3) answer. */
+/* The words of an answer. */
+enum sauskinna_answer {
+    SAUSKINNA_ANSWER_INSTRUCTIONS = 0, /* compile, accepted: instructions emitted */
+    SAUSKINNA_ANSWER_CELLS = 1,        /* compile, accepted: cells that the declarations take */
+    SAUSKINNA_ANSWER_NEED = 2,         /* compile, accepted: registers that the rule needs */
+    SAUSKINNA_ANSWER_VALUE = 0,        /* compile, refused: the refusal's value; the others are 0 */
+    SAUSKINNA_ANSWER_ENDING = 0,       /* step, run: how it ended */
+    SAUSKINNA_ANSWER_FAULT = 1,        /* step, run: the fault's number, or 0 */
+    SAUSKINNA_ANSWER_STEPS = 2,        /* step, run: steps taken */
+    SAUSKINNA_ANSWER_WORDS = 3
+};
+
+/* Endings: step answers one of the first three, run one of the last three. */
 enum sauskinna_ending {
     SAUSKINNA_WENT_ON = 0,
     SAUSKINNA_HALTED = 1,
@@ -106,36 +145,42 @@ enum sauskinna_ending {
 /*
  * Refusals, in the order in which they are looked for. Declarations and then
  * node rows are read from row 0; the first bad row decides, and within a row
- * the lowest number. "Value" is compile's answer[0].
- *
- *  no.  given when                                                    value
- *   1   node words not a multiple of 4, no rows, or above 1,024 rows  0
- *   2   declaration words odd, or above 256 rows                      0
- *   3   pool bit 0 set                                                0
- *   4   a declaration's kind or value is not one of the above         its row
- *   5   cells pass 65,536 with this row                               its row
- *   6   unknown node kind, unused word not 0, or child not a lower
- *       row                                                           its row
- *   7   a child, or the last row, of the wrong sort (expression for
- *       command, or the other way round)                              the parent's row, or the last
- *   8   name is no declaration row                                    its row
- *   9   name of the wrong kind                                        its row
- *  10   a row but the last not used exactly once                      lowest such row
- *  11   too few registers in the pool                                 the registers needed
- *  12   code buffer too short                                         the instructions needed
- *  13   run, step: code words not a multiple of 4, or above 262,144   -
- *  14   run, step: memory above 65,536 cells                          -
- *
+ * the lowest number. After the colon stands the value that compile answers.
+ */
+enum sauskinna_refusal {
+    SAUSKINNA_ACCEPTED = 0,
+    SAUSKINNA_REFUSED_NODE_WORDS = 1,        /* not a multiple of 4, no rows, or above 1,024 rows: 0 */
+    SAUSKINNA_REFUSED_DECLARATION_WORDS = 2, /* odd, or above 256 rows: 0 */
+    SAUSKINNA_REFUSED_POOL = 3,              /* bit 0 is set: 0 */
+    SAUSKINNA_REFUSED_DECLARATION = 4,       /* its kind or value is none of the above: its row */
+    SAUSKINNA_REFUSED_CELLS = 5,             /* they pass 65,536 with this declaration: its row */
+    SAUSKINNA_REFUSED_NODE = 6,              /* unknown kind, unused word not 0, or a child no lower row: its row */
+    SAUSKINNA_REFUSED_SORT = 7,              /* an expression for a command, or the other way round: the parent's
+                                                row, or the last row if that is no command */
+    SAUSKINNA_REFUSED_NAME = 8,              /* no declaration row: the node's row */
+    SAUSKINNA_REFUSED_NAME_KIND = 9,         /* constant, variable or array where another is asked: the node's row */
+    SAUSKINNA_REFUSED_USES = 10,             /* a row but the last not used exactly once: the lowest such row */
+    SAUSKINNA_REFUSED_REGISTERS = 11,        /* too few in the pool: the registers needed */
+    SAUSKINNA_REFUSED_ROOM = 12,             /* code buffer too short: the instructions needed */
+    SAUSKINNA_REFUSED_CODE_WORDS = 13,       /* step, run: not a multiple of 4, or above 262,144 */
+    SAUSKINNA_REFUSED_MEMORY = 14            /* step, run: above 65,536 cells */
+};
+
+/*
  * Faults, in the order in which an instruction is looked at. A fault counts no
  * step and changes nothing: the place stays at the instruction that faulted.
- *
- *  no.  given when
- *   1   the place is outside the code
- *   2   unknown operation, unused word not 0, or a register number outside 0..63
- *   3   a result written to $0
- *   4   a load or store outside memory (base + index, which does not wrap)
- *   5   a jump that is taken to a label outside the code
  */
+enum sauskinna_fault {
+    SAUSKINNA_NO_FAULT = 0,
+    SAUSKINNA_FAULT_PLACE = 1,       /* the place is outside the code */
+    SAUSKINNA_FAULT_INSTRUCTION = 2, /* unknown operation, unused word not 0, or a register number outside 0..63 */
+    SAUSKINNA_FAULT_ZERO = 3,        /* a result written to $0 */
+    SAUSKINNA_FAULT_ADDRESS = 4,     /* a load or store outside memory (base + index, which does not wrap) */
+    SAUSKINNA_FAULT_LABEL = 5        /* a jump that is taken to a label outside the code */
+};
+
+/* Returns the version of the archive: SAUSKINNA_VERSION of the header that it was made with. */
+uint32_t sauskinna_version(void);
 
 /*
  * Compiles a rule.
@@ -156,15 +201,18 @@ enum sauskinna_ending {
 uint32_t sauskinna_compile(const int32_t *declarations, size_t declaration_words,
                            const int32_t *nodes, size_t node_words,
                            uint64_t pool, int32_t *code, size_t code_words,
-                           uint32_t answer[3]);
+                           uint32_t answer[SAUSKINNA_ANSWER_WORDS]);
 
 /*
  * Takes one step.
  *
  *   code, code_words   four words an instruction, for a compiled rule 4 times
- *                      compile's answer[0]
+ *                      the instructions that compile answered
  *   memory, cells      0 to 65,536 cells, used with the values that they hold
- *   place              the instruction to do, from 0; then the one after it
+ *   place              the instruction to do, from 0. After a step that went
+ *                      on it is the next instruction's number, and after a
+ *                      jump that was taken its label; after a halt or a fault
+ *                      it is that instruction's own number.
  *   registers          $0 to $63. $0 reads as 0 whatever registers[0]
  *                      holds, and that holds after the call what it held
  *                      before; during the call it may be 0.
@@ -176,7 +224,7 @@ uint32_t sauskinna_compile(const int32_t *declarations, size_t declaration_words
  */
 uint32_t sauskinna_step(const int32_t *code, size_t code_words,
                         int32_t *memory, size_t cells, uint32_t *place,
-                        int32_t registers[64], uint32_t answer[3]);
+                        int32_t registers[SAUSKINNA_REGISTERS], uint32_t answer[SAUSKINNA_ANSWER_WORDS]);
 
 /*
  * Takes steps until the code halts or faults, or the budget is spent. A rule
@@ -185,14 +233,14 @@ uint32_t sauskinna_step(const int32_t *code, size_t code_words,
  *
  *   budget   the steps that may be taken, 0 to 4,294,967,295
  *
- * The other arguments are those of sauskinna_step. Returns 0; answer is an
- * ending (1 halted, 2 faulted, 3 unfinished), the fault's number or 0, and the
- * steps taken.
+ * The other arguments are those of sauskinna_step; place is left as the last
+ * instruction leaves it. Returns 0; answer is an ending (1 halted, 2 faulted, 3
+ * unfinished), the fault's number or 0, and the steps taken.
  * Refused: returns 13 or 14; answer is 0, 0, 0.
  */
 uint32_t sauskinna_run(const int32_t *code, size_t code_words,
                        int32_t *memory, size_t cells, uint32_t *place,
-                       int32_t registers[64], uint32_t budget, uint32_t answer[3]);
+                       int32_t registers[SAUSKINNA_REGISTERS], uint32_t budget, uint32_t answer[SAUSKINNA_ANSWER_WORDS]);
 
 #ifdef __cplusplus
 }

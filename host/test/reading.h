@@ -5,15 +5,17 @@
 #include <stddef.h>
 #include <stdint.h>
 
+#include "paper.h"
+
 struct tables {
     const int32_t *declarations;
     const int32_t *nodes;
 };
 
 /* What the words of each node kind are: v number, s constant or variable, x variable, a array, e expression, c command, - unused. */
-extern const char *const shapes[22];
+extern const char *const shapes[KINDS];
 
-/* Performs the rule whose last row is given on the memory; gives its ending (a fault is always 4) and its steps. */
+/* Performs the rule whose last row is given on the memory; gives its ending (a fault is that of an address) and its steps. */
 uint32_t meaning(const struct tables *t, int32_t row, int32_t *memory, size_t cells, uint32_t budget, uint32_t *steps);
 
 /* The registers that a row needs, and the instructions that it emits. */
