@@ -57,3 +57,7 @@ left n a s m = record { number = n; answer = a; state = s; memory = m }
 -- what the machine shows, in words
 abbrev pub inWords : machine.Shown → Left
 inWords x = left (returned (x .said)) (answered (x .said)) (x .state) (x .memory)
+
+-- the version of these functions and of what they answer: its first number × 1,000 + its second
+abbrev pub version : ℕ
+version = 1000

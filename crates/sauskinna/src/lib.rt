@@ -1,4 +1,4 @@
-// The C library: compile, a single step and a run, over words that a program in C or Rust lends. include/sauskinna.h declares them.
+// The C library: compile, a single step and a run, over words that a program in C or Rust lends; and its version. include/sauskinna.h declares them.
 use compiler::CompileAnswer;
 use machine::Ending;
 use machine::RunAnswer;
@@ -8,7 +8,10 @@ ghost use mathlib.Core.List.{[], _∷_};
 ghost use lib.ListN.{length};
 ghost use Rattle.compiler.specs.Answer.{compiled, leaves};
 ghost use Rattle.machine.specs.Entry.{stateOf, stepEntry, runEntry};
-ghost use Rattle.sauskinna.specs.Words.{compileReturned, compileAnswered, left, inWords};
+ghost use Rattle.sauskinna.specs.Words.{compileReturned, compileAnswered, left, inWords, version};
+
+// First number × 1,000 + second: the first is raised where an answer changes, the second where a function is added.
+const VERSION: u32 = 1000;
 
 // Stores the three words of an answer, and gives the number to return.
 fn tell(answer: &mut [u32; 3], a: u32, b: u32, c: u32, number: u32) -> u32
@@ -82,4 +85,12 @@ pub extern "C" fn sauskinna_run(
             Ending::Unfinished => tell(answer, 3, 0, steps, 0),
         },
     }
+}
+
+// The version of the library.
+#[no_mangle]
+pub extern "C" fn sauskinna_version() -> u32
+    ensures { λ r. ⌜ r ≡ version ⌝ }
+{
+    VERSION
 }
