@@ -13,6 +13,14 @@ use Rattle.rule.specs.declared.Verdict.{Verdict}
 use Rattle.rule.specs.declared.Verdict.the-variants.{Passes, Refuses}
 use Rattle.rule.specs.Check.{lowestFrom, refusedAt, firstRefused, refused}
 
+-- a row of the table is named with its number; a row after it is none
+module _ (f : ℕ → ℕ) (n i : ℕ) where
+  row-named : i < n → refusedAt f n i ≡ Refuses (f i) i
+  row-named h = rw (lt-ltb i n h)
+
+  none-named : n ≤ i → refusedAt f n i ≡ Passes
+  none-named h = rw (le-ltb i n h)
+
 -- the verdict, where the rows below i are in order
 abbrev pub scanFrom : (ℕ → ℕ) → (ℕ → Bool) → ℕ → ℕ → Verdict
 scanFrom f p n i = refusedAt f n (lowestFrom p (n - i) i)
@@ -30,8 +38,7 @@ module _ (f : ℕ → ℕ) (p : ℕ → Bool) (n : ℕ) where
 
     pub scan-hit : i < n → p i ≡ true → scanFrom f p n i ≡ Refuses (f i) i
     scan-hit h e =
-        ap (refusedAt f n) (turn h ∙ ap (λ (b : Bool). cond b i (lowestFrom p (n - (i + 1)) (i + 1))) e)
-        ∙ ap (λ (b : Bool). cond b (Refuses (f i) i) Passes) (lt-ltb i n h)
+        ap (refusedAt f n) (turn h ∙ ap (λ (b : Bool). cond b i (lowestFrom p (n - (i + 1)) (i + 1))) e) ∙ row-named f n i h
 
     pub scan-miss : i < n → p i ≡ false → scanFrom f p n i ≡ scanFrom f p n (i + 1)
     scan-miss h e = ap (refusedAt f n) (turn h ∙ ap (λ (b : Bool). cond b i (lowestFrom p (n - (i + 1)) (i + 1))) e)
@@ -40,7 +47,7 @@ module _ (f : ℕ → ℕ) (p : ℕ → Bool) (n : ℕ) where
     unfolding lowestFrom
     scan-end h =
         let e : n - i ≡ 0 = omega arith in
-        ap (λ (m : ℕ). refusedAt f n (lowestFrom p m i)) e ∙ ap (λ (b : Bool). cond b (Refuses (f i) i) Passes) (le-ltb i n h)
+        ap (λ (m : ℕ). refusedAt f n (lowestFrom p m i)) e ∙ none-named f n i h
 
 -- where no row is found, none fails
 none-found : (p : ℕ → Bool) (m i : ℕ) → i + m ≤ lowestFrom p m i → (j : ℕ) → i ≤ j → j < i + m → p j ≡ false
