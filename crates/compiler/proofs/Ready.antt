@@ -11,7 +11,7 @@ use Rattle.rule.specs.declared.Verdict.{Verdict}
 use Rattle.rule.specs.declared.Verdict.the-variants.{Passes}
 use Rattle.rule.specs.Table.{declarationRows, firstCell, bindingOf, nodeRows, comAt, program}
 use Rattle.rule.specs.Check.{_andThen_, nodeWords, declarationWords, declarations, declared, rows, usedOnce, nodes}
-use Rattle.rule.specs.Layout.{layoutOf}
+use Rattle.rule.specs.Layout.{laidSaid, layoutOf}
 use Rattle.rule.proofs.Verdicts.{both-pass, node-words-pass, declaration-words-pass}
 use Rattle.rule.proofs.Clean.{rows-in-order, row-in-order, last-in-order}
 use Rattle.rule.proofs.Cells.{base-at}
@@ -50,20 +50,20 @@ module _ (ds : List ℕ) (w : declarationWords (length ds) ≡ Passes) where
   unfolding declared
   declared-is = after-passed (declarationWords (length ds)) (declarations ds) w
 
-  pub layout-says : {l : Layout} → l ≡ layoutOf ds → declarations ds ≡ l .verdict
-  layout-says e = sym declared-is ∙ sym (layout-verdict ds e)
+  pub layout-says : (l : Layout) → laidSaid l ≡ layoutOf ds → declarations ds ≡ l .verdict
+  layout-says l e = sym declared-is ∙ sym (layout-verdict ds l e)
 
-  pub layout-based : {l : Layout} → l ≡ layoutOf ds → l .verdict ≡ Passes → Based ds (l .bases)
-  layout-based {l} e p =
+  pub layout-based : (l : Layout) → laidSaid l ≡ layoutOf ds → l .verdict ≡ Passes → Based ds (l .bases)
+  layout-based l e p =
       let n = declaration-words-pass (length ds) w in
-      let passed : declared ds ≡ Passes = sym (layout-verdict ds e) ∙ p in
+      let passed : declared ds ≡ Passes = sym (layout-verdict ds l e) ∙ p in
       record {
         few = omega arith;
-        based = λ x h. ap (λ (b : List ℕ). getD b x 0) (layout-bases ds e passed) ∙ base-at ds (declarationRows ds) x h (omega arith);
+        based = λ x h. ap (λ (b : List ℕ). getD b x 0) (layout-bases ds l e passed) ∙ base-at ds (declarationRows ds) x h (omega arith);
       }
 
-  pub layout-counts : {l : Layout} → l ≡ layoutOf ds → l .verdict ≡ Passes → l .cells ≡ firstCell ds (declarationRows ds)
-  layout-counts e p = layout-cells ds e (sym (layout-verdict ds e) ∙ p)
+  pub layout-counts : (l : Layout) → laidSaid l ≡ layoutOf ds → l .verdict ≡ Passes → l .cells ≡ firstCell ds (declarationRows ds)
+  layout-counts l e p = layout-cells ds l e (sym (layout-verdict ds l e) ∙ p)
 
 -- 4 to 10, and then what is left to check
 pub tables-then : (ds ns : List ℕ) (v rest : Verdict) → nodeWords (length ns) ≡ Passes → declarations ds ≡ Passes → nodes ds ns ≡ v

@@ -36,7 +36,7 @@ module _ (ds : List ℕ) where
   -- refusals 4 and 5 of one row, and a row in order, where the rows below it are
   module _ (x : ℕ) (h : x < declarationRows ds) where
     numbered : (a : Bool) → isDeclaration (sort ds x) (given ds x) ≡ a → declarationNo ds x ≡ cond a (cond (leb (firstCell ds (suc x)) 65536) 10 5) 4
-    numbered a e = ap (λ (t : Bool). cond t (cond (leb (firstCell ds (suc x)) 65536) 10 5) 4) e
+    numbered a e = rw e
 
     pub no-declaration : isDeclaration (sort ds x) (given ds x) ≡ false → numberedFrom (declarationNo ds) (declarationRows ds) x ≡ Refuses 4 x
     no-declaration e = numbered-hit (declarationNo ds) (declarationRows ds) x 4 h (sym (numbered false e)) (omega arith)

@@ -2,6 +2,7 @@ pub mod Verdicts
 pub mod Scans
 pub mod Sorts
 pub mod Cells
+pub mod Outcomes
 pub mod Answers
 pub mod Count
 pub mod Marking

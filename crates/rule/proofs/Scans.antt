@@ -13,6 +13,24 @@ use Rattle.rule.specs.declared.Verdict.{Verdict}
 use Rattle.rule.specs.declared.Verdict.the-variants.{Passes, Refuses}
 use Rattle.rule.specs.Check.{lowestFrom, refusedAt, firstRefused, refused}
 
+-- a row of the table is named with its number; a row after it is none
+module _ (f : ℕ → ℕ) (n i : ℕ) where
+  row-named : i < n → refusedAt f n i ≡ Refuses (f i) i
+  row-named h = rw (lt-ltb i n h)
+
+  none-named : n ≤ i → refusedAt f n i ≡ Passes
+  none-named h = rw (le-ltb i n h)
+
+-- a row that fails is found, whatever comes after it; else the search goes on
+module _ (p : ℕ → Bool) (m i : ℕ) where
+  first-found : p i ≡ true → lowestFrom p (suc m) i ≡ i
+  unfolding lowestFrom
+  first-found e = rw e
+
+  next-found : p i ≡ false → lowestFrom p (suc m) i ≡ lowestFrom p m (suc i)
+  unfolding lowestFrom
+  next-found e = rw e
+
 -- the verdict, where the rows below i are in order
 abbrev pub scanFrom : (ℕ → ℕ) → (ℕ → Bool) → ℕ → ℕ → Verdict
 scanFrom f p n i = refusedAt f n (lowestFrom p (n - i) i)
@@ -22,25 +40,25 @@ module _ (f : ℕ → ℕ) (p : ℕ → Bool) (n : ℕ) where
   scan-start = ap (λ (m : ℕ). refusedAt f n (lowestFrom p m 0)) (omega arith)
 
   module _ (i : ℕ) where
-    turn : i < n → lowestFrom p (n - i) i ≡ cond (p i) i (lowestFrom p (n - (i + 1)) (i + 1))
-    unfolding lowestFrom
-    turn h =
-        let e : n - i ≡ suc (n - (i + 1)) = omega arith in
-        ap (λ (m : ℕ). lowestFrom p m i) e ∙ ap (λ (k : ℕ). cond (p i) i (lowestFrom p (n - (i + 1)) k)) (sym (add-one i))
+    one-more : i < n → n - i ≡ suc (n - (i + 1))
+    one-more h = omega arith
 
     pub scan-hit : i < n → p i ≡ true → scanFrom f p n i ≡ Refuses (f i) i
     scan-hit h e =
-        ap (refusedAt f n) (turn h ∙ ap (λ (b : Bool). cond b i (lowestFrom p (n - (i + 1)) (i + 1))) e)
-        ∙ ap (λ (b : Bool). cond b (Refuses (f i) i) Passes) (lt-ltb i n h)
+        ap (λ (m : ℕ). refusedAt f n (lowestFrom p m i)) (one-more h)
+        ∙ ap (refusedAt f n) (first-found p (n - (i + 1)) i e)
+        ∙ row-named f n i h
 
     pub scan-miss : i < n → p i ≡ false → scanFrom f p n i ≡ scanFrom f p n (i + 1)
-    scan-miss h e = ap (refusedAt f n) (turn h ∙ ap (λ (b : Bool). cond b i (lowestFrom p (n - (i + 1)) (i + 1))) e)
+    scan-miss h e =
+        ap (λ (m : ℕ). refusedAt f n (lowestFrom p m i)) (one-more h)
+        ∙ ap (refusedAt f n) (next-found p (n - (i + 1)) i e ∙ ap (lowestFrom p (n - (i + 1))) (sym (add-one i)))
 
     pub scan-end : n ≤ i → scanFrom f p n i ≡ Passes
     unfolding lowestFrom
     scan-end h =
         let e : n - i ≡ 0 = omega arith in
-        ap (λ (m : ℕ). refusedAt f n (lowestFrom p m i)) e ∙ ap (λ (b : Bool). cond b (Refuses (f i) i) Passes) (le-ltb i n h)
+        ap (λ (m : ℕ). refusedAt f n (lowestFrom p m i)) e ∙ none-named f n i h
 
 -- where no row is found, none fails
 none-found : (p : ℕ → Bool) (m i : ℕ) → i + m ≤ lowestFrom p m i → (j : ℕ) → i ≤ j → j < i + m → p j ≡ false

@@ -1,4 +1,4 @@
--- The verdict on the declarations with their cells and first cells; nothing is laid out where they are refused.
+-- What `lay_out` answers: what is said of the declarations, their cells and first cells; nothing is laid out where they are refused.
 use mathlib.Core.List.{List}
 use Prim.Native.Nat.{ℕ}
 use lib.ListN.{replicate}
@@ -7,16 +7,26 @@ use Rattle.rule.specs.declared.Verdict.the-variants.{Passes, Refuses}
 use Rattle.rule.specs.declared.Layout.{Layout}
 use Rattle.rule.specs.Table.{declarationLimit, declarationRows, firstCell}
 use Rattle.rule.specs.Check.{bases as firstCells, declared}
+use Rattle.rule.specs.Answer.{Said, passed, refused, verdictSaid}
 
-abbrev pub laidAs : Verdict → ℕ → List ℕ → Layout
-laidAs v n l = record { verdict = v; cells = n; bases = l }
+pub record Laid : Type 0 where
+  pub said : Said
+  pub cells : ℕ
+  pub bases : List ℕ
 
-abbrev pub noLayout : ℕ → ℕ → Layout
-noLayout n v = laidAs (Refuses n v) 0 (replicate declarationLimit 0)
+abbrev pub laidAs : Said → ℕ → List ℕ → Laid
+laidAs s n l = record { said = s; cells = n; bases = l }
 
-abbrev pub laidOut : List ℕ → Verdict → Layout
-laidOut ds Passes = laidAs Passes (firstCell ds (declarationRows ds)) (firstCells ds (declarationRows ds))
+unfoldable pub laidSaid : Layout → Laid
+laidSaid l = laidAs (verdictSaid (l .verdict)) (l .cells) (l .bases)
+
+abbrev pub noLayout : ℕ → ℕ → Laid
+noLayout n v = laidAs (refused n v) 0 (replicate declarationLimit 0)
+
+abbrev pub laidOut : List ℕ → Verdict → Laid
+laidOut ds Passes = laidAs passed (firstCell ds (declarationRows ds)) (firstCells ds (declarationRows ds))
 laidOut ds (Refuses n v) = noLayout n v
 
-unfoldable pub layoutOf : List ℕ → Layout
+-- 2, 4 and 5
+unfoldable pub layoutOf : List ℕ → Laid
 layoutOf ds = laidOut ds (declared ds)

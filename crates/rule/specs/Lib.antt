@@ -3,5 +3,5 @@ pub mod Kind
 pub mod Table
 pub mod Check
 pub mod Marks
-pub mod Layout
 pub mod Answer
+pub mod Layout

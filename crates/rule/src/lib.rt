@@ -5,10 +5,10 @@ ghost use mathlib.Core.Path.{_≡_};
 ghost use Prim.Native.Nat.{_*_, _<_, _≤_};
 ghost use lib.ListN.{length};
 ghost use Rattle.rule.specs.Table.{rowLimit, declarationLimit, nodeRows, cellsOf};
-ghost use Rattle.rule.specs.Check.{_andThen_, nodeWords, declarationWords, isDeclaration, declarations as declarationsOf, rows as rowsOf, usedOnce, nodes as nodesOf};
+ghost use Rattle.rule.specs.Check.{_andThen_, nodeWords, declarationWords, isDeclaration, declarations as declarationsOf, rows as rowsOf, usedOnce};
 ghost use Rattle.rule.specs.Marks.{onceMarked};
-ghost use Rattle.rule.specs.Layout.{noLayout, laidOut, layoutOf};
-ghost use Rattle.rule.specs.Answer.{checkSaid, checked};
+ghost use Rattle.rule.specs.Layout.{laidSaid, noLayout, laidOut, layoutOf};
+ghost use Rattle.rule.specs.Answer.{verdictSaid, checkSaid, wordsChecked, rowsChecked, checked};
 
 // Kinds of node rows: expressions.
 pub const VALUE: u32 = 1;
@@ -110,7 +110,7 @@ fn check_declaration_words(words: usize) -> Verdict
 
 // Refusals 1 and 2.
 pub fn check_words(node_words: usize, declaration_words: usize) -> Verdict
-    ensures { λ r. ⌜ r ≡ nodeWords «node_words» andThen declarationWords «declaration_words» ⌝ }
+    ensures { λ r. ⌜ verdictSaid r ≡ wordsChecked «node_words» «declaration_words» ⌝ }
 {
     let of_nodes = check_node_words(node_words);
     match of_nodes {
@@ -144,7 +144,7 @@ fn cells_of(kind: u32, value: u32) -> u32
 
 // The layout of refused declarations.
 fn no_layout(number: u32, value: u32) -> Layout
-    ensures { λ r. ⌜ r ≡ noLayout number value ⌝ }
+    ensures { λ r. ⌜ laidSaid r ≡ noLayout number value ⌝ }
 {
     Layout {
         verdict: Verdict::Refuses(number, value),
@@ -156,7 +156,7 @@ fn no_layout(number: u32, value: u32) -> Layout
 // Refusals 4 and 5, with the cells given out in row order.
 fn lay_rows(declarations: &[u32]) -> Layout
     requires { ⌜ length (now declarations) ≤ declarationLimit * 2 ⌝ }
-    ensures { λ r. ⌜ r ≡ laidOut (now (declarations .entry)) (declarationsOf (now (declarations .entry))) ⌝ }
+    ensures { λ r. ⌜ laidSaid r ≡ laidOut (now (declarations .entry)) (declarationsOf (now (declarations .entry))) ⌝ }
 {
     let mut bases = [0u32; DECLARATION_LIMIT];
     let mut cells: u32 = 0;
@@ -183,7 +183,7 @@ fn lay_rows(declarations: &[u32]) -> Layout
 
 // Refusals 2, 4 and 5, with the number of cells and the first cell of each declaration.
 pub fn lay_out(declarations: &[u32]) -> Layout
-    ensures { λ r. ⌜ r ≡ layoutOf (now (declarations .entry)) ⌝ }
+    ensures { λ r. ⌜ laidSaid r ≡ layoutOf (now (declarations .entry)) ⌝ }
 {
     let words = check_declaration_words(declarations.len());
     match words {
@@ -227,7 +227,7 @@ fn scan_rows(declarations: &[u32], nodes: &[u32]) -> Verdict
 
 // Refusal 1, then 6 to 10.
 pub fn check_rows(declarations: &[u32], nodes: &[u32]) -> Verdict
-    ensures { λ r. ⌜ r ≡ nodesOf (now (declarations .entry)) (now (nodes .entry)) ⌝ }
+    ensures { λ r. ⌜ verdictSaid r ≡ rowsChecked (now (declarations .entry)) (now (nodes .entry)) ⌝ }
 {
     let sizes = check_node_words(nodes.len());
     match sizes {

@@ -43,11 +43,11 @@ sub-shift x y u v h = go (ltb x y) refl
 
 pub signed-low : (a : ℕ) → ltb a 2147483648 ≡ true → signed a ≡ pos a
 unfolding signed
-signed-low a e = rw e
+signed-low a e = ap (λ (t : Bool). cond t (pos a) (negsuc (4294967295 - a))) e
 
 pub signed-high : (a : ℕ) → ltb a 2147483648 ≡ false → signed a ≡ negsuc (4294967295 - a)
 unfolding signed
-signed-high a e = rw e
+signed-high a e = ap (λ (t : Bool). cond t (pos a) (negsuc (4294967295 - a))) e
 
 -- "Comparison is signed": the order of biased words
 pub less-law : (a b : ℕ) → a < 4294967296 → b < 4294967296 → ltb (biased a) (biased b) ≡ lessOf a b
@@ -91,19 +91,20 @@ address-law a b ha hb = go (ltb a 2147483648) refl (ltb b 2147483648) refl
 
 -- what an address sum leads to, by the biased words x and y of a and b
 module _ (a b size x y : ℕ) (ha : a < 4294967296) (hb : b < 4294967296) (hx : x ≡ biased a) (hy : y ≡ biased b) where
-  tied : signed a +ℤ signed b ≡ subℕ (x + y) 4294967296
+  tied : addressOf a b ≡ subℕ (x + y) 4294967296
+  unfolding addressOf
   tied = rw (hx, hy) (address-law a b ha hb)
 
   pub cell-below : x + y < 4294967296 → Nowhere ≡ cellOf (addressOf a b) size
-  unfolding cellOf addressOf
+  unfolding cellOf
   cell-below h = rw (tied, lt-ltb (x + y) 4294967296 h)
 
   pub cell-in : 4294967296 ≤ x + y → x + y - 4294967296 < size → At (x + y - 4294967296) ≡ cellOf (addressOf a b) size
-  unfolding cellOf addressOf
+  unfolding cellOf
   cell-in h k = rw (tied, le-ltb (x + y) 4294967296 h, lt-ltb (x + y - 4294967296) size k)
 
   pub cell-past : 4294967296 ≤ x + y → size ≤ x + y - 4294967296 → Nowhere ≡ cellOf (addressOf a b) size
-  unfolding cellOf addressOf
+  unfolding cellOf
   cell-past h k = rw (tied, le-ltb (x + y) 4294967296 h, le-ltb (x + y - 4294967296) size k)
 
 -- a cell that an address leads to is one of the memory's

@@ -2,3 +2,4 @@ pub mod Biased
 pub mod Bound
 pub mod Wraps
 pub mod Exact
+pub mod Outcomes

@@ -7,6 +7,7 @@ use Rattle.rule.specs.declared.Verdict.{Verdict}
 use Rattle.rule.specs.declared.Verdict.the-variants.{Refuses}
 use Rattle.rule.specs.Check.{_andThen_, nodeWords, declarationWords}
 use Rattle.rule.proofs.Verdicts.{both-pass}
+use Rattle.rule.proofs.Answers.{words-verdict}
 use Rattle.compiler.specs.Answer.{refused, poolBit, compiled, verdict}
 use Rattle.compiler.proofs.Answers.{bit-set, bit-clear, after-passed}
 use Rattle.compiler.proofs.Ready.{tablesRest, words-then, said-by, leaves-by}
@@ -47,16 +48,16 @@ enum-told c = search needs
 returns : tie.Need-returns
 returns c =
     let s = c .before .before .before .before .before .before .before in
-    let e = refused-by s (words-say s (c .before .before .before .check-words .ensures) (c .before .enum-told .given .1) ∙ ap (λ (v : Verdict). v andThen tablesRest (ds s) (ns s) (pool s) (length (code s))) (bit-set (pool s) (c .if1 .taken))) in
+    let e = refused-by s (words-say s (words-verdict _ _ (c .before .before .before .check-words .ensures)) (c .before .enum-told .given .1) ∙ ap (λ (v : Verdict). v andThen tablesRest (ds s) (ns s) (pool s) (length (code s))) (bit-set (pool s) (c .if1 .taken))) in
     (e, leaves-by (ds s) (ns s) (pool s) (code s) (code s) _ e refl)
 
 compile-tables-requires : tie.Need-compile-tables-requires
-compile-tables-requires c κs = both-pass _ _ (sym (c .before .before .before .before .check-words .ensures) ∙ c .before .before .enum-told .given .1)
+compile-tables-requires c κs = both-pass _ _ (sym (words-verdict _ _ (c .before .before .before .before .check-words .ensures)) ∙ c .before .before .enum-told .given .1)
 
 returns-2 : tie.Need-returns-2
 returns-2 c =
     let s = c .before .before .before .before .before .before .before in
-    let e = refused-by s (words-say s (c .before .before .before .check-words .ensures) (c .before .words .given .1)) in
+    let e = refused-by s (words-say s (words-verdict _ _ (c .before .before .before .check-words .ensures)) (c .before .words .given .1)) in
     (e, leaves-by (ds s) (ns s) (pool s) (code s) (code s) _ e refl)
 
 same-length : tie.Need-same-length
@@ -65,7 +66,7 @@ same-length c = search needs
 returns-3 : tie.Need-returns-3
 returns-3 c =
     let s = c .before .before .before .before .before .before .before .before .before .before .before in
-    let v = words-say s (c .before .before .before .before .before .before .before .check-words .ensures) (c .before .before .before .before .before .enum-told .given .1) ∙ after-passed _ _ (bit-clear (pool s) (c .before .before .before .before .if1 .left)) in
+    let v = words-say s (words-verdict _ _ (c .before .before .before .before .before .before .before .check-words .ensures)) (c .before .before .before .before .before .enum-told .given .1) ∙ after-passed _ _ (bit-clear (pool s) (c .before .before .before .before .if1 .left)) in
     let e = c .before .before .compile-tables .ensures .0 ∙ said-by (ds s) (ns s) (pool s) (length (code s)) v in
     (e, leaves-by (ds s) (ns s) (pool s) (code s) _ _ e (c .before .before .compile-tables .ensures .1))
 

@@ -7,6 +7,7 @@ use lib.ListN.{length}
 use Rattle.rule.specs.declared.Verdict.{Verdict}
 use Rattle.rule.specs.declared.Verdict.the-variants.{Passes}
 use Rattle.rule.specs.Check.{_andThen_, declarations}
+use Rattle.rule.proofs.Answers.{rows-verdict}
 use Rattle.compiler.specs.Pool.{registersOf}
 use Rattle.compiler.specs.Answer.{Said, enough, roomFor, need, instructions, cells, saidAs}
 use Rattle.compiler.proofs.Ready.{ready, layout-says, layout-based, layout-counts, tables-then, nodes-pass}
@@ -49,28 +50,28 @@ enum-told-2 c = search needs
 sub-row : tie.Need-sub-row
 sub-row c =
     let s = c .before .before .before .before .before .before .before .before .before .before in
-    let p = nodes-pass (ds s) (ns s) (sym (c .before .before .before .check-rows .ensures) ∙ c .before .enum-told2 .given .1) in
+    let p = nodes-pass (ds s) (ns s) (sym (rows-verdict (ds s) (ns s) (c .before .before .before .check-rows .ensures)) ∙ c .before .enum-told2 .given .1) in
     let h = ready (ds s) (ns s) (s .pre .0) (p .0) (p .1) .some in
     omega arith
 
 generate-requires : tie.Need-generate-requires
 generate-requires c κs =
     let s = c .before .before .before .before .before .before .before .before .before .before .before .before in
-    let p = nodes-pass (ds s) (ns s) (sym (c .before .before .before .before .before .check-rows .ensures) ∙ c .before .before .before .enum-told2 .given .1) in
+    let p = nodes-pass (ds s) (ns s) (sym (rows-verdict (ds s) (ns s) (c .before .before .before .before .before .check-rows .ensures)) ∙ c .before .before .before .enum-told2 .given .1) in
     let r = ready (ds s) (ns s) (s .pre .0) (p .0) (p .1) in
     let b = r .small in
-    (r .rows-fit, (layout-based (ds s) (s .pre .1) (c .before .before .before .before .before .before .before .before .lay-out .ensures) (c .before .before .before .before .before .before .enum-told .given .1), ((r .last, r .few), omega arith)))
+    (r .rows-fit, (layout-based (ds s) (s .pre .1) _ (c .before .before .before .before .before .before .before .before .lay-out .ensures) (c .before .before .before .before .before .before .enum-told .given .1), ((r .last, r .few), omega arith)))
 
 returns : tie.Need-returns
 returns c =
     let s = c .before .before .before .before .before .before .before in
-    (rw (layout-says (ds s) (s .pre .1) (c .before .before .before .lay-out .ensures) ∙ c .before .laid .given .1), refl)
+    (rw (layout-says (ds s) (s .pre .1) _ (c .before .before .before .lay-out .ensures) ∙ c .before .laid .given .1), refl)
 
 returns-2 : tie.Need-returns-2
 returns-2 c =
     let s = c .before .before .before .before .before .before .before .before .before .before in
-    let d = layout-says (ds s) (s .pre .1) (c .before .before .before .before .before .before .lay-out .ensures) ∙ c .before .before .before .before .enum-told .given .1 in
-    (sym (ap (said s) (tables-then (ds s) (ns s) _ (rest s) (s .pre .0) d (sym (c .before .before .before .check-rows .ensures) ∙ c .before .checked .given .1))), refl)
+    let d = layout-says (ds s) (s .pre .1) _ (c .before .before .before .before .before .before .lay-out .ensures) ∙ c .before .before .before .before .enum-told .given .1 in
+    (sym (ap (said s) (tables-then (ds s) (ns s) _ (rest s) (s .pre .0) d (sym (rows-verdict (ds s) (ns s) (c .before .before .before .check-rows .ensures)) ∙ c .before .checked .given .1))), refl)
 
 same-length : tie.Need-same-length
 same-length c = search needs
@@ -78,9 +79,9 @@ same-length c = search needs
 returns-3 : tie.Need-returns-3
 returns-3 c =
     let s = c .before .before .before .before .before .before .before .before .before .before .before .before .before .before .before in
-    let d = layout-says (ds s) (s .pre .1) (c .before .before .before .before .before .before .before .before .before .before .before .lay-out .ensures) ∙ c .before .before .before .before .before .before .before .before .before .enum-told .given .1 in
-    let t = tables-then (ds s) (ns s) Passes (rest s) (s .pre .0) d (sym (c .before .before .before .before .before .before .before .before .check-rows .ensures) ∙ c .before .before .before .before .before .before .enum-told2 .given .1) in
-    let n = layout-counts (ds s) (s .pre .1) (c .before .before .before .before .before .before .before .before .before .before .before .lay-out .ensures) (c .before .before .before .before .before .before .before .before .before .enum-told .given .1) in
+    let d = layout-says (ds s) (s .pre .1) _ (c .before .before .before .before .before .before .before .before .before .before .before .lay-out .ensures) ∙ c .before .before .before .before .before .before .before .before .before .enum-told .given .1 in
+    let t = tables-then (ds s) (ns s) Passes (rest s) (s .pre .0) d (sym (rows-verdict (ds s) (ns s) (c .before .before .before .before .before .before .before .before .check-rows .ensures)) ∙ c .before .before .before .before .before .before .enum-told2 .given .1) in
+    let n = layout-counts (ds s) (s .pre .1) _ (c .before .before .before .before .before .before .before .before .before .before .before .lay-out .ensures) (c .before .before .before .before .before .before .before .before .before .enum-told .given .1) in
     (c .before .before .generate .ensures .0 ∙ ap (λ (c : ℕ). saidAs (instructions (ds s) (ns s)) c (need (ds s) (ns s)) (rest s)) n ∙ sym (ap (said s) t), c .before .before .generate .ensures .1)
 
 pub compile-tables-spec : {M : Type 1} → statement M

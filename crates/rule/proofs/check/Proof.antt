@@ -3,7 +3,7 @@
 use mathlib.Core.Path.{refl, sym, ap, _∙_}
 use borrow.Author.Needs.{needs}
 use Rattle.rule.specs.Answer.{accepted}
-use Rattle.rule.proofs.Answers.{checked-from, layout-verdict, layout-cells}
+use Rattle.rule.proofs.Answers.{words-verdict, rows-verdict, checked-from, layout-verdict, layout-cells}
 use Rattle.rule.proofs.check.Statement.{statement}
 use Rattle.rule.proofs.check.Tie as tie
 
@@ -39,29 +39,29 @@ returns c =
     let handed = c .before .before .before .before .before .before .args in
     let ds = handed .declarations .now in
     let ns = handed .nodes .now in
-    checked-from ds ns (sym (c .before .sizes .given .1) ∙ c .before .before .before .check-words .ensures) refl refl
+    checked-from ds ns (sym (c .before .sizes .given .1) ∙ words-verdict _ _ (c .before .before .before .check-words .ensures)) refl refl
 
 returns-2 : tie.Need-returns-2
 returns-2 c =
     let handed = c .before .before .before .before .before .before .before .before .before .args in
     let ds = handed .declarations .now in
     let ns = handed .nodes .now in
-    checked-from ds ns (sym (c .before .before .before .before .enum-told .given .1) ∙ c .before .before .before .before .before .before .check-words .ensures) (sym (c .before .laid .given .1) ∙ layout-verdict ds (c .before .before .before .lay-out .ensures)) refl
+    checked-from ds ns (sym (c .before .before .before .before .enum-told .given .1) ∙ words-verdict _ _ (c .before .before .before .before .before .before .check-words .ensures)) (sym (c .before .laid .given .1) ∙ layout-verdict ds _ (c .before .before .before .lay-out .ensures)) refl
 
 returns-3 : tie.Need-returns-3
 returns-3 c =
     let handed = c .before .before .before .before .before .before .before .before .before .before .before .before .args in
     let ds = handed .declarations .now in
     let ns = handed .nodes .now in
-    checked-from ds ns (sym (c .before .before .before .before .before .before .before .enum-told .given .1) ∙ c .before .before .before .before .before .before .before .before .before .check-words .ensures) (sym (c .before .before .before .before .enum-told2 .given .1) ∙ layout-verdict ds (c .before .before .before .before .before .before .lay-out .ensures)) (sym (c .before .passed .given .1) ∙ c .before .before .before .check-rows .ensures)
+    checked-from ds ns (sym (c .before .before .before .before .before .before .before .enum-told .given .1) ∙ words-verdict _ _ (c .before .before .before .before .before .before .before .before .before .check-words .ensures)) (sym (c .before .before .before .before .enum-told2 .given .1) ∙ layout-verdict ds _ (c .before .before .before .before .before .before .lay-out .ensures)) (sym (c .before .passed .given .1) ∙ rows-verdict ds ns (c .before .before .before .check-rows .ensures))
 
 returns-4 : tie.Need-returns-4
 returns-4 c =
     let handed = c .before .before .before .before .before .before .before .before .before .before .before .args in
     let ds = handed .declarations .now in
     let ns = handed .nodes .now in
-    let e = sym (c .before .before .before .enum-told2 .given .1) ∙ layout-verdict ds (c .before .before .before .before .before .lay-out .ensures) in
-    ap accepted (layout-cells ds (c .before .before .before .before .before .lay-out .ensures) (sym e)) ∙ checked-from ds ns (sym (c .before .before .before .before .before .before .enum-told .given .1) ∙ c .before .before .before .before .before .before .before .before .check-words .ensures) e (sym (c .enum-told3 .given .1) ∙ c .before .before .check-rows .ensures)
+    let e = sym (c .before .before .before .enum-told2 .given .1) ∙ layout-verdict ds _ (c .before .before .before .before .before .lay-out .ensures) in
+    ap accepted (layout-cells ds _ (c .before .before .before .before .before .lay-out .ensures) (sym e)) ∙ checked-from ds ns (sym (c .before .before .before .before .before .before .enum-told .given .1) ∙ words-verdict _ _ (c .before .before .before .before .before .before .before .before .check-words .ensures)) e (sym (c .enum-told3 .given .1) ∙ rows-verdict ds ns (c .before .before .check-rows .ensures))
 
 pub check-spec : {M : Type 1} → statement M
 check-spec =

@@ -1,8 +1,10 @@
 -- `check_node_words`: the tests are those of refusal 1, one at a time.
 -- Assumes nothing.
+use Prim.Native.Nat.{_*_}
 use native.Mathlib.Omega.{arith}
 use borrow.Author.Tests.{eq-eqb, ne-eqb, lt-leb, le-leb, lt-ltb, le-ltb}
 use borrow.Author.Needs.{needs}
+use Rattle.rule.specs.Table.{rowLimit}
 use Rattle.rule.specs.Check.{nodeWords}
 use Rattle.rule.proofs.check_node_words.Statement.{statement}
 use Rattle.rule.proofs.check_node_words.Tie as tie
@@ -21,12 +23,12 @@ mul-if3 c = search needs
 returns-3 : tie.Need-returns-3
 unfolding nodeWords
 returns-3 c =
-    simp (eq-eqb _ _ (c .before .before .if1 .left), lt-ltb 0 (c .before .before .before .args .words) (omega arith), lt-leb _ _ (c .if3 .taken))
+    simp (eq-eqb _ _ (c .before .before .if1 .left), lt-ltb 0 (c .before .before .before .args .words) (omega arith), lt-leb (c .before .before .before .args .words) (rowLimit * 4) (omega arith))
 
 returns-4 : tie.Need-returns-4
 unfolding nodeWords
 returns-4 c =
-    simp (eq-eqb _ _ (c .before .before .if1 .left), lt-ltb 0 (c .before .before .before .args .words) (omega arith), le-leb _ _ (c .if3 .left))
+    simp (eq-eqb _ _ (c .before .before .if1 .left), lt-ltb 0 (c .before .before .before .args .words) (omega arith), le-leb (c .before .before .before .args .words) (rowLimit * 4) (omega arith))
 
 pub check-node-words-spec : {M : Type 1} → statement M
 check-node-words-spec = tie.close (tie.spec returns returns-2 mul-if3 returns-3 returns-4)

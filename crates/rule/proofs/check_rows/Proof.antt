@@ -1,10 +1,11 @@
 -- `check_rows`: refusal 1, and where it is not given the rows are few enough for the rest.
 -- Assumes nothing.
-use mathlib.Core.Path.{sym, _∙_}
+use mathlib.Core.Path.{sym, ap, _∙_}
 use native.Mathlib.Omega.{arith}
 use lib.ListN.{length}
 use borrow.Author.Needs.{needs}
 use Rattle.rule.specs.Check.{nodes}
+use Rattle.rule.specs.Answer.{verdictSaid, rowsChecked}
 use Rattle.rule.proofs.Verdicts.{node-words-pass}
 use Rattle.rule.proofs.check_rows.Statement.{statement}
 use Rattle.rule.proofs.check_rows.Tie as tie
@@ -24,12 +25,13 @@ scan-rows-requires c κs =
     omega arith
 
 returns : tie.Need-returns
-unfolding nodes
-returns c = rw (← c .before .before .before .check-node-words .ensures, c .before .sizes .given .1)
+unfolding nodes rowsChecked
+returns c = ap verdictSaid (rw (← c .before .before .before .check-node-words .ensures, c .before .sizes .given .1))
 
 returns-2 : tie.Need-returns-2
-unfolding nodes
-returns-2 c = rw (← c .before .before .before .check-node-words .ensures, c .before .enum-told .given .1) (c .scan-rows .ensures)
+unfolding nodes rowsChecked
+returns-2 c =
+    ap verdictSaid (rw (← c .before .before .before .check-node-words .ensures, c .before .enum-told .given .1) (c .scan-rows .ensures))
 
 pub check-rows-spec : {M : Type 1} → statement M
 check-rows-spec =

@@ -1,6 +1,8 @@
 -- `check_words`: refusal 1, then 2.
 -- Assumes nothing.
+use mathlib.Core.Path.{ap}
 use borrow.Author.Needs.{needs}
+use Rattle.rule.specs.Answer.{verdictSaid, wordsChecked}
 use Rattle.rule.proofs.check_words.Statement.{statement}
 use Rattle.rule.proofs.check_words.Tie as tie
 
@@ -17,11 +19,13 @@ check-declaration-words-requires : tie.Need-check-declaration-words-requires
 check-declaration-words-requires c κs = search needs
 
 returns : tie.Need-returns
-returns c = rw (← c .before .before .before .check-node-words .ensures, c .before .of-nodes .given .1)
+unfolding wordsChecked
+returns c = ap verdictSaid (rw (← c .before .before .before .check-node-words .ensures, c .before .of-nodes .given .1))
 
 returns-2 : tie.Need-returns-2
+unfolding wordsChecked
 returns-2 c =
-    rw (← c .before .before .before .check-node-words .ensures, c .before .enum-told .given .1) (c .check-declaration-words .ensures)
+    ap verdictSaid (rw (← c .before .before .before .check-node-words .ensures, c .before .enum-told .given .1) (c .check-declaration-words .ensures))
 
 pub check-words-spec : {M : Type 1} → statement M
 check-words-spec =

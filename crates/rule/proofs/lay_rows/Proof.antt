@@ -6,10 +6,10 @@ use Prim.Native.Nat.{ℕ, _+_, _-_, _/_, _≤_}
 use native.Mathlib.Omega.{arith}
 use lib.ListN.{length, set}
 use borrow.Author.Tests.{not-true, not-false}
-use Rattle.rule.specs.declared.Verdict.the-variants.{Passes}
 use Rattle.rule.specs.Table.{declarationRows, sort, given, firstCell}
 use Rattle.rule.specs.Check.{declarationNo, refused, declarations as declarationsOf, bases as firstCells}
-use Rattle.rule.specs.Layout.{laidAs, laidOut}
+use Rattle.rule.specs.Answer.{passed, verdictSaid}
+use Rattle.rule.specs.Layout.{laidAs, laidSaid, laidOut}
 use Rattle.rule.proofs.Scans.{numberedFrom, scan-start, scan-end}
 use Rattle.rule.proofs.Cells.{declaration-cells, first-cell-next, bases-next, no-declaration, too-many-cells, declaration-in-order}
 use Rattle.rule.proofs.lay_rows.Statement.{statement}
@@ -110,12 +110,13 @@ loop-again c =
     (omega arith, ap₂ (λ (l : List ℕ) (v : ℕ). set l (turn .row) v) (turn .inv .1) (turn .inv .2) ∙ sym (bases-next ds i), sym n, c .if2 .left, turn .inv .4 ∙ declaration-in-order ds i (c .before .before .before .before .before .before .loop-test .taken) (sym (c .before .before .before .is-declaration .ensures) ∙ not-false _ (c .before .before .if1 .left)) (omega arith))
 
 returns-3 : tie.Need-returns-3 Inv-loop μ-loop
+unfolding laidSaid verdictSaid
 returns-3 c =
     let turn = c .before .loop in
     let handed = c .before .before .before .args in
     let ds = handed .declarations .now in
     let e : turn .row ≡ declarationRows (handed .declarations .now) = omega arith in
-    ap₂ (laidAs Passes) (turn .inv .2 ∙ ap (firstCell ds) e) (turn .inv .1 ∙ ap (firstCells ds) e) ∙ ap (laidOut ds) (sym (turn .inv .4 ∙ scan-end (declarationNo ds) (λ x. refused (declarationNo ds x)) (declarationRows ds) (turn .row) (c .loop-test .left)))
+    ap₂ (laidAs passed) (turn .inv .2 ∙ ap (firstCell ds) e) (turn .inv .1 ∙ ap (firstCells ds) e) ∙ ap (laidOut ds) (sym (turn .inv .4 ∙ scan-end (declarationNo ds) (λ x. refused (declarationNo ds x)) (declarationRows ds) (turn .row) (c .loop-test .left)))
 
 pub lay-rows-spec : {M : Type 1} → statement M
 lay-rows-spec =

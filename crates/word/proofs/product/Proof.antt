@@ -7,7 +7,7 @@ use Rattle.word.proofs.product.Statement.{statement}
 use Rattle.word.proofs.product.Tie as tie
 
 mul-result : tie.Need-mul-result
-mul-result c = record { fits = below 32 (c .fits .a .fits) (c .fits .b .fits) }
+mul-result c = record { fits = below 32 (search needs) (search needs) }
 
 cast-result : tie.Need-cast-result
 cast-result c = search needs

@@ -1,7 +1,6 @@
 -- `sum`: the wrapping addition gives the word of the exact sum.
 -- Assumes nothing.
 use borrow.Author.Needs.{needs}
-use mathlib.Core.Path.{_∙_}
 use Rattle.word.proofs.Wraps.{sum-law}
 use Rattle.word.proofs.sum.Statement.{statement}
 use Rattle.word.proofs.sum.Tie as tie
@@ -12,7 +11,7 @@ wrapping-add-u32-requires c κs = search needs
 returns : tie.Need-returns
 returns c =
     let s = c .before in
-    c .wrapping-add-u32 .ensures ∙ sum-law (s .args .a) (s .args .b) (s .fits .a .fits) (s .fits .b .fits)
+    rw (c .wrapping-add-u32 .ensures) (sum-law (s .args .a) (s .args .b) (s .fits .a .fits) (s .fits .b .fits))
 
 pub sum-spec : {M : Type 1} → statement M
 sum-spec = tie.close (tie.spec wrapping-add-u32-requires returns)

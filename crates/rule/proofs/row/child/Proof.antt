@@ -1,6 +1,7 @@
 -- `child`: the tests are those of refusals 6 and 7; a row below the parent's is within the marks.
 -- Assumes nothing.
 use mathlib.Core.Path.{sym, _∙_}
+use native.Mathlib.Omega.{arith}
 use borrow.Author.Tests.{lt-ltb, le-ltb}
 use borrow.Author.Needs.{needs}
 use Rattle.rule.proofs.Sorts.{kind-word}
@@ -8,7 +9,10 @@ use Rattle.rule.proofs.row.child.Statement.{statement}
 use Rattle.rule.proofs.row.child.Tie as tie
 
 returns : tie.Need-returns
-returns c = (simp (le-ltb _ _ (c .if1 .taken)), simp (le-ltb _ _ (c .if1 .taken)))
+returns c =
+    let handed = c .before .before .args in
+    let e = le-ltb (handed .w) (handed .row) (omega arith) in
+    (simp e, simp e)
 
 element-copy-out-more : tie.Need-element-copy-out-more
 element-copy-out-more c = search needs
@@ -33,11 +37,15 @@ among-requires c κs = search needs
 
 returns-2 : tie.Need-returns-2
 returns-2 c =
-    (simp (lt-ltb _ _ (c .before .before .before .before .before .if1 .left), ← kind-word, sym (c .before .among .ensures) ∙ c .if2 .taken), simp (lt-ltb _ _ (c .before .before .before .before .before .if1 .left), c .before .before .before .more .ensures))
+    let handed = c .before .before .before .before .before .before .before .args in
+    let e = lt-ltb (handed .w) (handed .row) (omega arith) in
+    (simp (e, ← kind-word, sym (c .before .among .ensures) ∙ c .if2 .taken), simp (e, c .before .before .before .more .ensures))
 
 returns-3 : tie.Need-returns-3
 returns-3 c =
-    (simp (lt-ltb _ _ (c .before .before .before .before .before .if1 .left), ← kind-word, sym (c .before .among .ensures) ∙ c .if2 .left), simp (lt-ltb _ _ (c .before .before .before .before .before .if1 .left), c .before .before .before .more .ensures))
+    let handed = c .before .before .before .before .before .before .before .args in
+    let e = lt-ltb (handed .w) (handed .row) (omega arith) in
+    (simp (e, ← kind-word, sym (c .before .among .ensures) ∙ c .if2 .left), simp (e, c .before .before .before .more .ensures))
 
 pub child-spec : {M : Type 1} → statement M
 child-spec =
