@@ -18,8 +18,11 @@ pub const CODE_WORDS: usize = 262_144;
 /// Registers, $0 to $63; $0 reads as 0.
 pub const REGISTERS: usize = 64;
 
-/// Bytes of stack that a call may take.
+/// Bytes of stack that any call may take.
 pub const STACK: usize = 163_840;
+
+/// Bytes of stack that a run or a step may take.
+pub const STACK_RUN: usize = 512;
 
 /// Code words that hold any rule of so many node rows: a row gives at most four instructions, and the end one more.
 pub const fn room(rows: usize) -> usize {

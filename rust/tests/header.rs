@@ -11,6 +11,7 @@ const KNOWN: &[(&str, i64)] = &[
     ("CODE_WORDS", CODE_WORDS as i64),
     ("REGISTERS", REGISTERS as i64),
     ("STACK", STACK as i64),
+    ("STACK_RUN", STACK_RUN as i64),
     ("CONSTANT", declaration::CONSTANT as i64),
     ("VARIABLE", declaration::VARIABLE as i64),
     ("ARRAY", declaration::ARRAY as i64),
