@@ -3,7 +3,6 @@
 use mathlib.Core.Path.{_≡_, refl, sym, ap, _∙_}
 use mathlib.Core.List.{List}
 use Prim.Native.Nat.{ℕ}
-use Rattle.word.proofs.Outcomes.{both-are}
 use Rattle.rule.specs.declared.Verdict.{Verdict}
 use Rattle.rule.specs.declared.Verdict.the-variants.{Passes, Refuses}
 use Rattle.rule.specs.declared.Layout.{Layout}
@@ -50,14 +49,14 @@ pub one-layout : (a b : Layout) → laidSaid a ≡ laidSaid b → a ≡ b
 one-layout a b e = sym (laid-back a) ∙ ap (λ (l : Laid). laidFrom (verdictOf (l .said)) l) e ∙ laid-back b
 
 pub one-check-words : (n d : ℕ) (a b : Verdict) → verdictSaid a ≡ wordsChecked n d → verdictSaid b ≡ wordsChecked n d → a ≡ b
-one-check-words n d a b p q = one-verdict a b (both-are p q)
+one-check-words n d a b p q = one-verdict a b (p ∙ sym q)
 
 pub one-lay-out : (ds : List ℕ) (a b : Layout) → laidSaid a ≡ layoutOf ds → laidSaid b ≡ layoutOf ds → a ≡ b
-one-lay-out ds a b p q = one-layout a b (both-are p q)
+one-lay-out ds a b p q = one-layout a b (p ∙ sym q)
 
 module _ (ds ns : List ℕ) where
   pub one-check-rows : (a b : Verdict) → verdictSaid a ≡ rowsChecked ds ns → verdictSaid b ≡ rowsChecked ds ns → a ≡ b
-  one-check-rows a b p q = one-verdict a b (both-are p q)
+  one-check-rows a b p q = one-verdict a b (p ∙ sym q)
 
   pub one-check : (a b : CheckAnswer) → checkSaid a ≡ checked ds ns → checkSaid b ≡ checked ds ns → a ≡ b
-  one-check a b p q = one-answer a b (both-are p q)
+  one-check a b p q = one-answer a b (p ∙ sym q)

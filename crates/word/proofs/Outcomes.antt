@@ -6,22 +6,18 @@ use Prim.Native.Nat.{ℕ}
 use Rattle.word.specs.declared.Cell.{Cell}
 use Rattle.word.specs.Word.{sumOf, differenceOf, productOf, lessOf, addressOf, cellOf}
 
--- what a promise `r ≡ x` leaves: two results that both are x are equal
-pub both-are : {A : Type 0} {x a b : A} → a ≡ x → b ≡ x → a ≡ b
-both-are p q = p ∙ sym q
-
 module _ (a b : ℕ) where
   pub one-sum : (r s : ℕ) → r ≡ sumOf a b → s ≡ sumOf a b → r ≡ s
-  one-sum r s p q = both-are p q
+  one-sum r s p q = p ∙ sym q
 
   pub one-difference : (r s : ℕ) → r ≡ differenceOf a b → s ≡ differenceOf a b → r ≡ s
-  one-difference r s p q = both-are p q
+  one-difference r s p q = p ∙ sym q
 
   pub one-product : (r s : ℕ) → r ≡ productOf a b → s ≡ productOf a b → r ≡ s
-  one-product r s p q = both-are p q
+  one-product r s p q = p ∙ sym q
 
   pub one-less : (r s : Bool) → r ≡ lessOf a b → s ≡ lessOf a b → r ≡ s
-  one-less r s p q = both-are p q
+  one-less r s p q = p ∙ sym q
 
 pub one-cell-at : (base index size : ℕ) (r s : Cell) → r ≡ cellOf (addressOf base index) size → s ≡ cellOf (addressOf base index) size → r ≡ s
-one-cell-at base index size r s p q = both-are p q
+one-cell-at base index size r s p q = p ∙ sym q
