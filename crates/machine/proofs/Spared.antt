@@ -18,7 +18,7 @@ use Rattle.machine.specs.declared.Sizes.{Sizes}
 use Rattle.machine.specs.declared.Sizes.the-variants.{Fine, CodeWords, MemoryCells}
 use Rattle.machine.specs.Step.{Did, did, wroteRegisters, loads, stores, readOf, cellAt, rules, perform, tried, stepOf}
 use Rattle.machine.specs.Run.{follow, runOf}
-use Rattle.machine.specs.Entry.{sizesOf, entered, runShown, runEntry}
+use Rattle.machine.specs.Entry.{Shown, sizesOf, entered, runShown, runEntry}
 use Rattle.machine.proofs.Places.{All, looked-up}
 
 -- of what was fetched, if it is an instruction
@@ -98,9 +98,10 @@ module _ (j : ℕ) where
 
     pub spared-kept : (m : List ℕ) (s : State) (budget : ℕ) → getD (runEntry code m s budget .state .registers) j 0 ≡ getD (s .registers) j 0
     unfolding runEntry
-    spared-kept m s budget = go (sizesOf (length code) (length m))
+    spared-kept m s budget = go (sizesOf (length code) (length m)) (runShown budget (runOf code budget (s .place) (s .registers) m)) (run-kept budget (s .place) (s .registers) m)
       where
-        go : (x : Sizes) → Kept (s .registers) (entered x (runShown budget (runOf code budget (s .place) (s .registers) m)) s m .state .registers)
-        go Fine = run-kept budget (s .place) (s .registers) m
-        go CodeWords = refl
-        go MemoryCells = refl
+        -- whether the run is refused or not
+        go : (x : Sizes) (r : Shown) → Kept (s .registers) (r .state .registers) → Kept (s .registers) (entered x r s m .state .registers)
+        go Fine r h = cc
+        go CodeWords r h = cc
+        go MemoryCells r h = cc
