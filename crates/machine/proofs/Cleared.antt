@@ -14,7 +14,7 @@ use Rattle.word.specs.declared.Cell.the-variants.{At, Nowhere}
 use Rattle.instruction.specs.Instruction.{Instruction, ins, Fetched, outside, unknown, found, fetch, countOf}
 use Rattle.machine.specs.declared.Next.{Next}
 use Rattle.machine.specs.declared.Next.the-variants.{Go, Halt, Fault}
-use Rattle.machine.specs.Step.{Did, did, writes, wroteRegisters, loads, stores, branches, flagOf, readOf, cellAt, rules, perform, tried, stepOf}
+use Rattle.machine.specs.Step.{Did, did, writes, loads, stores, branches, flagOf, readOf, cellAt, rules, perform, tried, stepOf}
 use Rattle.machine.specs.Run.{Ran, ran, follow, runOf}
 use Rattle.machine.proofs.Spared.{IfFound, Spares, spares-other, step-kept, run-kept}
 
