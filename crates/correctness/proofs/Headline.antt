@@ -1,6 +1,6 @@
--- The headline statements. Each name leads into the contract of `compile`, `step` or `run`, but for the last three, of the meaning alone.
+-- The headline statements. Each name leads into the contract of `compile`, `step` or `run`, but for the last four, of the meaning alone.
 -- Assumes nothing.
-use mathlib.Core.Path.{_≡_}
+use mathlib.Core.Path.{_≡_, sym, _∙_}
 use mathlib.Core.Logic.{_↔_}
 use mathlib.Core.Bool.{cond}
 use mathlib.Core.List.{List}
@@ -9,7 +9,7 @@ use native.Mathlib.Omega.{arith}
 use lib.ListN.{length, getD, take}
 use borrow.Author.Tests.{eq-eqb, le-leb}
 use Rattle.word.specs.Word.{Words, differenceOf}
-use Rattle.machine.specs.declared.Ending.the-variants.{Halted}
+use Rattle.machine.specs.declared.Ending.the-variants.{Halted, Faulted}
 use Rattle.machine.specs.declared.State.{State}
 use Rattle.machine.specs.Entry.{ended, stateOf, sizesOf, runEntry}
 use Rattle.machine.specs.Single.{singly}
@@ -27,7 +27,7 @@ use Rattle.correctness.proofs.Registers as P
 use Rattle.correctness.proofs.Acceptance.{bit-said}
 use Rattle.correctness.proofs.HostRegisters as K
 use Rattle.correctness.proofs.Eleven as E
-use Rattle.correctness.proofs.Meant.{meant}
+use Rattle.correctness.proofs.Meant.{faulted-as-meant, meant}
 use Rattle.correctness.proofs.HaltsAlike as H
 use Rattle.correctness.proofs.Minutes as M
 use Rattle.correctness.proofs.Minutes.{names, rule}
@@ -45,6 +45,10 @@ module _ (ds ns : List ℕ) (pool : ℕ) (code : List ℕ) (n c k : ℕ) (wd : W
     -- memory; and each register outside the pool holds what it held
     pub demand-3 : (budget : ℕ) → AsMeant (registersOf pool) R budget (ruleMeaning (bindingOf ds) (program ns) m budget) (runEntry emitted m (stateOf 0 R) budget)
     demand-3 budget = meant ds ns pool code n c k wd wn said R m budget registers cells
+
+    -- So a run of the code from place 0 has no fault but 4
+    pub code-faults-with-4 : (budget f steps : ℕ) → runEntry emitted m (stateOf 0 R) budget .said ≡ ended (Faulted f) steps → f ≡ 4
+    code-faults-with-4 budget f steps e = faulted-as-meant (bindingOf ds) (program ns) m budget f steps (sym (demand-3 budget .said) ∙ e)
 
     -- So the code halts under some budget exactly when the rule does
     pub halts-exactly : RuleHaltsSometime (bindingOf ds) (program ns) m ↔ RunHaltsSometime emitted R m
@@ -134,3 +138,7 @@ pub ends-alike : (ρ : ℕ → Binding) (c : Com) (m m′ : List ℕ) (b l d : �
     → (ruleMeaning ρ c m b ≡ done tt m′ l → ruleMeaning ρ c m (b + d) ≡ done tt m′ (l + d))
     × ((n : ℕ) → ruleMeaning ρ c m b ≡ fault n m′ l → ruleMeaning ρ c m (b + d) ≡ fault n m′ (l + d))
 ends-alike = L.ends-alike
+
+-- "A rule faults when that address, or a variable's, is outside memory": it has no other fault
+pub faults-with-4 : (ρ : ℕ → Binding) (c : Com) (m m′ : List ℕ) (b l n : ℕ) → ruleMeaning ρ c m b ≡ fault n m′ l → n ≡ 4
+faults-with-4 = L.faults-with-4

@@ -1,4 +1,4 @@
--- Laws of the meaning, from the meaning alone: what is left of a budget, how a rule ends under a larger one, and while turn by turn.
+-- Laws of the meaning, from the meaning alone: what is left of a budget, how a rule ends under a larger one, its one fault, and while turn by turn.
 -- Assumes nothing.
 use mathlib.Core.Path.{_≡_, refl, sym, subst}
 use mathlib.Core.Bool.{Bool, true, false, cond, not}
@@ -12,7 +12,7 @@ use Rattle.rule.specs.Tree.{Com, skip, assign, assignAt, sequence, choose, whil
 use Rattle.rule.specs.Tree.{Binding, constant, variable, array, base}
 use Rattle.correctness.specs.Meaning.{Outcome, done, fault, out, leftOf, M, bind, _>>=_, _>>_, return, spend}
 use Rattle.correctness.specs.Meaning.{elementOf, truth, flag, result, steps, named, eval, turns, exec, ruleMeaning}
-use Rattle.correctness.proofs.Timed.{Larger, Timed, timed-return, timed-bind, timed-spend, timed-cond, timed-read, timed-store}
+use Rattle.correctness.proofs.Timed.{Larger, Four, Timed, timed-return, timed-bind, timed-spend, timed-cond, timed-read, timed-store}
 
 -- Expressions
 
@@ -64,7 +64,7 @@ module _ (test : M ℕ) (body : M (Unit {0})) where
   module _ (t : Timed test) (u : Timed body) (first : (m : List ℕ) → test m 0 ≡ out m) where
     timed-turns : (f : ℕ) → Timed (turns test body f)
     unfolding turns
-    timed-turns zero = record { within = λ m b. omega arith; lasts = λ m b d. tt }
+    timed-turns zero = record { within = λ m b. omega arith; lasts = λ m b d. tt; four = λ m b. tt }
     timed-turns (suc f) =
         timed-bind t (λ v. timed-bind (timed-spend 1)
         (λ _. timed-cond (truth v) (timed-bind (timed-bind u (λ _. timed-spend 1)) (λ _. timed-turns f)) (timed-return tt)))
@@ -112,6 +112,7 @@ module _ (test : M ℕ) (body : M (Unit {0})) where
         record {
           within = λ m b. timed-turns b .within m b;
           lasts = λ m b d. rw (turns-same b (b + d) m b (le-refl b) (omega arith)) (timed-turns (b + d) .lasts m b d);
+          four = λ m b. timed-turns b .four m b;
         }
 
 -- Commands
@@ -153,3 +154,6 @@ ends-alike ρ c m m′ b l d =
     let h : Larger d (ruleMeaning ρ c m b) (ruleMeaning ρ c m (b + d)) = timed-rule ρ c .lasts m b d in
     let P : Outcome (Unit {0}) → Type 0 = λ x. Larger d x (ruleMeaning ρ c m (b + d)) in
     (λ e. subst P e h, λ n e. subst P e h)
+
+pub faults-with-4 : (ρ : ℕ → Binding) (c : Com) (m m′ : List ℕ) (b l n : ℕ) → ruleMeaning ρ c m b ≡ fault n m′ l → n ≡ 4
+faults-with-4 ρ c m m′ b l n e = subst Four e (timed-rule ρ c .four m b)

@@ -1,6 +1,6 @@
 -- The code that an accepted compilation leaves runs as the rule means.
 -- Assumes nothing.
-use mathlib.Core.Path.{_≡_, _∙_, sym, ap, ap₂, subst}
+use mathlib.Core.Path.{_≡_, refl, _∙_, sym, ap, ap₂, subst}
 use mathlib.Core.List.{List}
 use Prim.Native.Nat.{ℕ, _-_, _*_, _%_, _≤_}
 use native.Mathlib.Omega.{arith}
@@ -8,13 +8,16 @@ use lib.ListN.{length, take}
 use borrow.Author.Tests.{eq-eqb, le-leb}
 use Rattle.word.specs.Word.{Words}
 use Rattle.machine.specs.declared.Ending.{Ending}
+use Rattle.machine.specs.declared.Ending.the-variants.{Faulted}
 use Rattle.machine.specs.Run.{Ran, runOf}
 use Rattle.machine.specs.Entry.{ended, stateOf, sizesOf, runShown, runEntry}
+use Rattle.rule.specs.Tree.{Com, Binding}
 use Rattle.rule.specs.Table.{bindingOf, program}
-use Rattle.correctness.specs.Meaning.{Outcome, ruleMeaning}
+use Rattle.correctness.specs.Meaning.{Outcome, done, fault, out, leftOf, ruleMeaning}
 use Rattle.compiler.specs.Pool.{registersOf}
 use Rattle.compiler.specs.Answer.{accepted, compiled, leaves}
-use Rattle.correctness.specs.Demand3.{AsMeant}
+use Rattle.correctness.specs.Demand3.{endingOf, AsMeant}
+use Rattle.correctness.proofs.Meanings.{faults-with-4}
 use Rattle.correctness.proofs.Program.{RanAsMeant, program-right}
 use Rattle.correctness.proofs.Tables.{binding-fit, program-words}
 use Rattle.correctness.proofs.Acceptance.{pool-said, need-enough, cells-said, small-said, length-code, code-left}
@@ -36,6 +39,16 @@ shows F R budget o x h =
       memory = h .memory;
       registers = h .registers;
     }
+
+-- an outcome that is told as a fault is told as 4
+pub faulted-as-meant : (ρ : ℕ → Binding) (c : Com) (m : List ℕ) (budget f steps : ℕ)
+    → ended (endingOf (ruleMeaning ρ c m budget)) (budget - leftOf (ruleMeaning ρ c m budget)) ≡ ended (Faulted f) steps → f ≡ 4
+faulted-as-meant ρ c m budget f steps = go (ruleMeaning ρ c m budget) refl
+  where
+    go : (o : Outcome (Unit {0})) → ruleMeaning ρ c m budget ≡ o → ended (endingOf o) (budget - leftOf o) ≡ ended (Faulted f) steps → f ≡ 4
+    go (done _ m′ l) e h = let z : _≡_ {A = ℕ} 0 1 = cc in absurd (omega arith)
+    go (fault n m′ l) e h = let k : n ≡ f = cc in sym k ∙ faults-with-4 ρ c m m′ budget l n e
+    go (out m′) e h = let z : _≡_ {A = ℕ} 0 1 = cc in absurd (omega arith)
 
 module _ (ds ns : List ℕ) (pool : ℕ) (code : List ℕ) (n c k : ℕ) (wd : Words ds) (wn : Words ns)
     (said : compiled ds ns pool (length code) ≡ accepted n c k) where

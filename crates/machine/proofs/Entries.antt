@@ -20,6 +20,11 @@ use Rattle.machine.specs.Run.{Ran, follow, runOf}
 use Rattle.machine.proofs.Places.{run-place}
 use Rattle.machine.specs.Entry.{Said, refused, ended, went, halted, faulted, Shown, shown, sizesOf, entered, runShown, runEntry, stepShown, stepEntry}
 
+-- "13 comes before 14": code of a wrong size is refused whatever the memory
+pub thirteen-first : (w c : ℕ) → eqb (w % 4) 0 && leb w 262144 ≡ false → sizesOf w c ≡ CodeWords
+unfolding sizesOf
+thirteen-first w c h = rw h
+
 pub fine-words : (w c : ℕ) → sizesOf w c ≡ Fine → w ≤ 262144
 unfolding sizesOf
 fine-words w c = go (eqb (w % 4) 0) (leb w 262144) refl (leb c 65536)

@@ -1,4 +1,3 @@
-pub mod Sentences
 pub mod Runs
 pub mod Places
 pub mod Entries

@@ -15,7 +15,6 @@ use Rattle.machine.specs.declared.Next.{Next}
 use Rattle.machine.specs.declared.Next.the-variants.{Go, Halt, Fault}
 use Rattle.machine.specs.Step.{Did, did, loads, stores, jumpsTo, branches, rules, perform, tried, stepOf, cellAt, readOf}
 use Rattle.machine.specs.Run.{follow, runOf}
-use Rattle.machine.proofs.Sentences.{not-taken}
 
 abbrev Within : ℕ → Next → Type 0
 Within n (Go q) = q ≤ n
@@ -31,6 +30,10 @@ pub looked-up : (P : Did → Type 0) (ds : List Did) (d : Did) → All P ds → 
 looked-up P [] d h k o = k
 looked-up P (x ∷ ds) d h k zero = h .0
 looked-up P (x ∷ ds) d h k (suc o) = looked-up P ds d (h .1) k o
+
+-- "A branch not taken does not look at its label."
+pub not-taken : (n p l : ℕ) → branches false n p l ≡ Go (suc p)
+not-taken n p l = refl
 
 module _ (n p : ℕ) (inside : p < n) where
   wrote : (t : Bool) → Within n (cond t (Fault 3) (Go (suc p)))

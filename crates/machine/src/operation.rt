@@ -120,10 +120,10 @@ fn slt(g: &mut [u32; 64], place: usize, a: u32, b: u32, c: u32) -> Next
 fn missed(a: u32) -> Next
     ensures { λ r. ⌜ r ≡ cond (eqb a 0) (Next.Fault 3) (Next.Fault 4) ⌝ }
 {
-    if a == 0 {
-        Next::Fault(3)
-    } else {
+    if a != 0 {
         Next::Fault(4)
+    } else {
+        Next::Fault(3)
     }
 }
 

@@ -1,13 +1,14 @@
 -- `write`: a result for $0 faults, any other is stored.
 -- Assumes nothing.
 use native.Mathlib.Numerals.{add-one}
+use native.Mathlib.Omega.{arith}
 use borrow.Author.Tests.{eq-eqb, ne-eqb}
 use borrow.Author.Needs.{needs}
 use Rattle.machine.proofs.operation.write.Statement.{statement}
 use Rattle.machine.proofs.operation.write.Tie as tie
 
 returns : tie.Need-returns
-returns c = let e = eq-eqb (c .before .args .a) 0 (c .if1 .taken) in (rw e, rw e)
+returns c = let e = eq-eqb (c .before .args .a) 0 (omega arith) in (rw e, rw e)
 
 mul-g : tie.Need-mul-g
 mul-g c = search needs
