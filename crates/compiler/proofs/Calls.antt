@@ -6,14 +6,14 @@ use Prim.Native.Nat.{ℕ, _<_, _≤_}
 use native.Mathlib.Omega.{arith}
 use lib.ListN.{length, getD}
 use Rattle.rule.specs.Tree.{Binding}
-use Rattle.rule.specs.Table.{declarationRows, firstCell, expAt, comAt}
+use Rattle.rule.specs.Table.{declarationLimit, declarationRows, firstCell, expAt, comAt}
 use Rattle.compiler.specs.Compile.{Texp, Tcom}
-use Rattle.compiler.specs.Inside.{Based, Emitted, Fit, FitCom}
+use Rattle.compiler.specs.Inside.{Rows, Based, Emitted, Fit, FitCom}
 use Rattle.compiler.proofs.Emitting.{emitted-as}
 
 -- a name's first cell, in the array of bases
-pub based-at : (ds bs : List ℕ) → Based ds bs → (x : ℕ) → x < declarationRows ds → (x < 256) × (getD bs x 0 ≡ firstCell ds x)
-based-at ds bs b x h = let f = b .few in (omega arith, b .based x h)
+pub based-at : (ds ns bs : List ℕ) → Rows ds ns → Based ds bs → (x : ℕ) → x < declarationRows ds → (x < declarationLimit) × (getD bs x 0 ≡ firstCell ds x)
+based-at ds ns bs all b x h = let f = all .few in (omega arith, b .based x h)
 
 module _ (ρ : ℕ → Binding) (ns : List ℕ) (m n : ℕ) (same : m ≡ n) where
   pub exp-laid : {l l′ : List ℕ} {q q′ : ℕ} (u : ℕ) (G : List ℕ) → Emitted l l′ q q′ (Texp ρ (expAt ns m) u G q)

@@ -27,20 +27,19 @@ use Rattle.compiler.proofs.Answers.{after-passed, then-assoc}
 pub record Ready (ds ns : List ℕ) : Type 0 where
   pub rows-fit : Rows ds ns
   pub last : ComRow ns (nodeRows ns - 1)
-  pub few : nodeRows ns - 1 < 65536
   pub some : 0 < nodeRows ns
   pub small : sizeCom (bindingOf ds) (comAt ns (nodeRows ns - 1)) ≤ 4096
 
-pub ready : (ds ns : List ℕ) → nodeWords (length ns) ≡ Passes → rows ds ns ≡ Passes → usedOnce ns ≡ Passes → Ready ds ns
-ready ds ns w p q =
+pub ready : (ds ns : List ℕ) → nodeWords (length ns) ≡ Passes → declarationWords (length ds) ≡ Passes → rows ds ns ≡ Passes → usedOnce ns ≡ Passes → Ready ds ns
+ready ds ns w v p q =
     let n = node-words-pass (length ns) w in
-    let all : Rows ds ns = record { ok = λ i h. row-in-order ds ns i (rows-in-order ds ns p i (omega arith)) } in
+    let m = declaration-words-pass (length ds) v in
+    let all : Rows ds ns = record { few = omega arith; short = omega arith; ok = λ i h. row-in-order ds ns i (rows-in-order ds ns p i (omega arith)) } in
     let c = last-in-order ds ns p (omega arith) in
     let b = program-small (bindingOf ds) ds ns (omega arith) (omega arith) all p q c in
     record {
       rows-fit = all;
       last = record { there = omega arith; sort = c };
-      few = omega arith;
       some = omega arith;
       small = omega arith;
     }
@@ -58,7 +57,6 @@ module _ (ds : List ℕ) (w : declarationWords (length ds) ≡ Passes) where
       let n = declaration-words-pass (length ds) w in
       let passed : declared ds ≡ Passes = sym (layout-verdict ds l e) ∙ p in
       record {
-        few = omega arith;
         based = λ x h. ap (λ (b : List ℕ). getD b x 0) (layout-bases ds l e passed) ∙ base-at ds (declarationRows ds) x h (omega arith);
       }
 

@@ -10,7 +10,7 @@ use Rattle.rule.specs.Tree.{Exp, Com, Binding}
 use Rattle.rule.specs.Kind.{Kind, kindOf, wordsOf, isExpression, isCommand}
 use Rattle.rule.specs.Tree.{Op, plus}
 use Rattle.rule.specs.Kind as K
-use Rattle.rule.specs.Table.{declarationRows, firstCell, kindAt}
+use Rattle.rule.specs.Table.{rowLimit, declarationLimit, declarationRows, firstCell, kindAt}
 use Rattle.rule.proofs.Clean.{RowInOrder}
 use Rattle.compiler.specs.Compile.{needExp, sizeExp, needCom, sizeCom}
 
@@ -37,13 +37,14 @@ Binary k = kindOf k ≡ K.aBinary (opOf (kindOf k))
 abbrev pub eitherWay : ℕ → ℕ → ℕ → ℕ → ℕ → ℕ → ℕ → List Instruction
 eitherWay branch r t u x y end = ins addi r x 0 ∷ ins branch t 0 end ∷ ins branch u 0 end ∷ ins addi r y 0 ∷ []
 
--- every row is in order
+-- the tables are of sizes that are taken, and every row is in order
 pub record Rows (ds ns : List ℕ) : Type 0 where
+  pub few : declarationRows ds ≤ declarationLimit
+  pub short : length ns ≤ rowLimit * 4
   pub ok : (i : ℕ) → i * 4 + 3 < length ns → RowInOrder ds ns i (wordsOf (kindAt ns i))
 
 -- the array of bases holds each declaration's first cell
 pub record Based (ds bases : List ℕ) : Type 0 where
-  pub few : declarationRows ds ≤ 256
   pub based : (x : ℕ) → x < declarationRows ds → getD bases x 0 ≡ firstCell ds x
 
 -- row i is there, and of its sort

@@ -24,7 +24,7 @@ ghost use lib.ListN.{length, getD};
 ghost use Rattle.instruction.specs.Instruction.{ins};
 ghost use Rattle.rule.specs.Tree.{equal};
 ghost use Rattle.rule.specs.Kind.{kindOf};
-ghost use Rattle.rule.specs.Table.{declarationRows, bindingOf};
+ghost use Rattle.rule.specs.Table.{declarationLimit, declarationRows, bindingOf};
 ghost use Rattle.compiler.specs.Pool.{registersOf};
 ghost use Rattle.compiler.specs.Compile.{after, needNamed, sizeNamed, sizeOp, namedCode, loadCode, operatorCode, notCode, storeCode};
 ghost use Rattle.compiler.specs.Inside.{opOf, Binary, Based, Room, Emitted, eitherWay};
@@ -128,7 +128,7 @@ pub(crate) fn emit_operator(
 
 // An identifier's value into the target.
 pub(crate) fn emit_name(
-    declarations: &[u32],
+    declarations: &&[u32],
     bases: &[u32; 256],
     x: usize,
     target: u32,
@@ -136,11 +136,11 @@ pub(crate) fn emit_name(
     code: &mut [u32],
     at: usize,
 ) -> usize
-    requires { ⌜ Based (now declarations) (now bases) ⌝ }
-    requires { ⌜ x < declarationRows (now declarations) ⌝ }
-    requires { ⌜ needNamed (bindingOf (now declarations) x) ≤ length (registersOf pool) ⌝ }
-    requires { ⌜ Room (now code) at (sizeNamed (bindingOf (now declarations) x)) ⌝ }
-    ensures { λ r. ⌜ Emitted (now (code .entry)) (now (code .exit)) at r (namedCode (bindingOf (now (declarations .entry)) x) target (registersOf pool)) ⌝ }
+    requires { ⌜ Based (now (now declarations)) (now bases) ⌝ }
+    requires { ⌜ (x < declarationLimit) × (x < declarationRows (now (now declarations))) ⌝ }
+    requires { ⌜ needNamed (bindingOf (now (now declarations)) x) ≤ length (registersOf pool) ⌝ }
+    requires { ⌜ Room (now code) at (sizeNamed (bindingOf (now (now declarations)) x)) ⌝ }
+    ensures { λ r. ⌜ Emitted (now (code .entry)) (now (code .exit)) at r (namedCode (bindingOf (now (now (declarations .entry))) x) target (registersOf pool)) ⌝ }
 {
     if declarations[x * 2] == CONSTANT {
         return put(code, at, ADDI, target, declarations[x * 2 + 1], 0);

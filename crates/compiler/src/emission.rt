@@ -31,8 +31,8 @@ ghost use Rattle.compiler.specs.Inside.{Rows, Based, ExpRow, ComRow, Emi
 
 // The expression of a row into the target.
 fn emit_exp(
-    declarations: &[u32],
-    nodes: &[u32],
+    declarations: &&[u32],
+    nodes: &&[u32],
     bases: &[u32; 256],
     row: usize,
     target: u32,
@@ -40,11 +40,11 @@ fn emit_exp(
     code: &mut [u32],
     at: usize,
 ) -> usize
-    requires { ⌜ Rows (now declarations) (now nodes) ⌝ }
-    requires { ⌜ Based (now declarations) (now bases) ⌝ }
-    requires { ⌜ ExpRow (now nodes) row ⌝ }
-    requires { ⌜ Fit (bindingOf (now declarations)) (expAt (now nodes) row) (now code) at (registersOf pool) ⌝ }
-    ensures { λ r. ⌜ Emitted (now (code .entry)) (now (code .exit)) at r (Texp (bindingOf (now (declarations .entry))) (expAt (now (nodes .entry)) row) target (registersOf pool) at) ⌝ }
+    requires { ⌜ Rows (now (now declarations)) (now (now nodes)) ⌝ }
+    requires { ⌜ Based (now (now declarations)) (now bases) ⌝ }
+    requires { ⌜ ExpRow (now (now nodes)) row ⌝ }
+    requires { ⌜ Fit (bindingOf (now (now declarations))) (expAt (now (now nodes)) row) (now code) at (registersOf pool) ⌝ }
+    ensures { λ r. ⌜ Emitted (now (code .entry)) (now (code .exit)) at r (Texp (bindingOf (now (now (declarations .entry)))) (expAt (now (now (nodes .entry))) row) target (registersOf pool) at) ⌝ }
 {
     let kind = word(nodes, row, 0);
     if kind == VALUE {
@@ -106,19 +106,19 @@ fn emit_exp(
 
 // Assign: a row of that kind.
 fn emit_assign(
-    declarations: &[u32],
-    nodes: &[u32],
+    declarations: &&[u32],
+    nodes: &&[u32],
     bases: &[u32; 256],
     row: usize,
     pool: u64,
     code: &mut [u32],
     at: usize,
 ) -> usize
-    requires { ⌜ Rows (now declarations) (now nodes) ⌝ }
-    requires { ⌜ Based (now declarations) (now bases) ⌝ }
-    requires { ⌜ (ComRow (now nodes) row) × (wordOf (now nodes) row 0 ≡ 17) ⌝ }
-    requires { ⌜ FitCom (bindingOf (now declarations)) (comAt (now nodes) row) (now code) at (registersOf pool) ⌝ }
-    ensures { λ r. ⌜ Emitted (now (code .entry)) (now (code .exit)) at r (Tcom (bindingOf (now (declarations .entry))) (comAt (now (nodes .entry)) row) (registersOf pool) at) ⌝ }
+    requires { ⌜ Rows (now (now declarations)) (now (now nodes)) ⌝ }
+    requires { ⌜ Based (now (now declarations)) (now bases) ⌝ }
+    requires { ⌜ (ComRow (now (now nodes)) row) × (wordOf (now (now nodes)) row 0 ≡ 17) ⌝ }
+    requires { ⌜ FitCom (bindingOf (now (now declarations))) (comAt (now (now nodes)) row) (now code) at (registersOf pool) ⌝ }
+    ensures { λ r. ⌜ Emitted (now (code .entry)) (now (code .exit)) at r (Tcom (bindingOf (now (now (declarations .entry)))) (comAt (now (now (nodes .entry))) row) (registersOf pool) at) ⌝ }
 {
     let t = lowest(pool);
     let rest = cleared(pool);
@@ -137,19 +137,19 @@ fn emit_assign(
 
 // Assign element: a row of that kind.
 fn emit_assign_element(
-    declarations: &[u32],
-    nodes: &[u32],
+    declarations: &&[u32],
+    nodes: &&[u32],
     bases: &[u32; 256],
     row: usize,
     pool: u64,
     code: &mut [u32],
     at: usize,
 ) -> usize
-    requires { ⌜ Rows (now declarations) (now nodes) ⌝ }
-    requires { ⌜ Based (now declarations) (now bases) ⌝ }
-    requires { ⌜ (ComRow (now nodes) row) × (wordOf (now nodes) row 0 ≡ 18) ⌝ }
-    requires { ⌜ FitCom (bindingOf (now declarations)) (comAt (now nodes) row) (now code) at (registersOf pool) ⌝ }
-    ensures { λ r. ⌜ Emitted (now (code .entry)) (now (code .exit)) at r (Tcom (bindingOf (now (declarations .entry))) (comAt (now (nodes .entry)) row) (registersOf pool) at) ⌝ }
+    requires { ⌜ Rows (now (now declarations)) (now (now nodes)) ⌝ }
+    requires { ⌜ Based (now (now declarations)) (now bases) ⌝ }
+    requires { ⌜ (ComRow (now (now nodes)) row) × (wordOf (now (now nodes)) row 0 ≡ 18) ⌝ }
+    requires { ⌜ FitCom (bindingOf (now (now declarations))) (comAt (now (now nodes)) row) (now code) at (registersOf pool) ⌝ }
+    ensures { λ r. ⌜ Emitted (now (code .entry)) (now (code .exit)) at r (Tcom (bindingOf (now (now (declarations .entry)))) (comAt (now (now (nodes .entry))) row) (registersOf pool) at) ⌝ }
 {
     let t = lowest(pool);
     let rest = cleared(pool);
@@ -180,19 +180,19 @@ fn emit_assign_element(
 
 // The command of a row. The label of a branch is written once it is known.
 pub(crate) fn emit_com(
-    declarations: &[u32],
-    nodes: &[u32],
+    declarations: &&[u32],
+    nodes: &&[u32],
     bases: &[u32; 256],
     row: usize,
     pool: u64,
     code: &mut [u32],
     at: usize,
 ) -> usize
-    requires { ⌜ Rows (now declarations) (now nodes) ⌝ }
-    requires { ⌜ Based (now declarations) (now bases) ⌝ }
-    requires { ⌜ ComRow (now nodes) row ⌝ }
-    requires { ⌜ FitCom (bindingOf (now declarations)) (comAt (now nodes) row) (now code) at (registersOf pool) ⌝ }
-    ensures { λ r. ⌜ Emitted (now (code .entry)) (now (code .exit)) at r (Tcom (bindingOf (now (declarations .entry))) (comAt (now (nodes .entry)) row) (registersOf pool) at) ⌝ }
+    requires { ⌜ Rows (now (now declarations)) (now (now nodes)) ⌝ }
+    requires { ⌜ Based (now (now declarations)) (now bases) ⌝ }
+    requires { ⌜ ComRow (now (now nodes)) row ⌝ }
+    requires { ⌜ FitCom (bindingOf (now (now declarations))) (comAt (now (now nodes)) row) (now code) at (registersOf pool) ⌝ }
+    ensures { λ r. ⌜ Emitted (now (code .entry)) (now (code .exit)) at r (Tcom (bindingOf (now (now (declarations .entry)))) (comAt (now (now (nodes .entry))) row) (registersOf pool) at) ⌝ }
 {
     let kind = word(nodes, row, 0);
     if kind == SKIP {

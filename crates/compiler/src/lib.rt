@@ -27,20 +27,20 @@ pub enum CompileAnswer {
 
 // Refusals 11 and 12, and the code of the row's command in the buffer where there is none.
 fn generate(
-    declarations: &[u32],
-    nodes: &[u32],
+    declarations: &&[u32],
+    nodes: &&[u32],
     bases: &[u32; 256],
     row: usize,
     cells: u32,
     pool: u64,
     code: &mut [u32],
 ) -> CompileAnswer
-    requires { ⌜ Rows (now declarations) (now nodes) ⌝ }
-    requires { ⌜ Based (now declarations) (now bases) ⌝ }
-    requires { ⌜ (ComRow (now nodes) row) × (row < 65536) ⌝ }
-    requires { ⌜ sizeCom (bindingOf (now declarations)) (comAt (now nodes) row) < 65536 ⌝ }
-    ensures answer { λ r. ⌜ compileSaid r ≡ saidAs (sizeCom (bindingOf (now (declarations .entry))) (comAt (now (nodes .entry)) row) + 1) cells (needCom (bindingOf (now (declarations .entry))) (comAt (now (nodes .entry)) row)) (enough (needCom (bindingOf (now (declarations .entry))) (comAt (now (nodes .entry)) row)) (length (registersOf pool)) andThen roomFor (sizeCom (bindingOf (now (declarations .entry))) (comAt (now (nodes .entry)) row) + 1) (length (now (code .entry)))) ⌝ }
-    ensures buffer { λ r. ⌜ now (code .exit) ≡ bufferAs (assemble (Tprog (bindingOf (now (declarations .entry))) (comAt (now (nodes .entry)) row) (registersOf pool))) (now (code .entry)) (compileSaid r) ⌝ }
+    requires { ⌜ Rows (now (now declarations)) (now (now nodes)) ⌝ }
+    requires { ⌜ Based (now (now declarations)) (now bases) ⌝ }
+    requires { ⌜ ComRow (now (now nodes)) row ⌝ }
+    requires { ⌜ sizeCom (bindingOf (now (now declarations))) (comAt (now (now nodes)) row) < 65536 ⌝ }
+    ensures answer { λ r. ⌜ compileSaid r ≡ saidAs (sizeCom (bindingOf (now (now (declarations .entry)))) (comAt (now (now (nodes .entry))) row) + 1) cells (needCom (bindingOf (now (now (declarations .entry)))) (comAt (now (now (nodes .entry))) row)) (enough (needCom (bindingOf (now (now (declarations .entry)))) (comAt (now (now (nodes .entry))) row)) (length (registersOf pool)) andThen roomFor (sizeCom (bindingOf (now (now (declarations .entry)))) (comAt (now (now (nodes .entry))) row) + 1) (length (now (code .entry)))) ⌝ }
+    ensures buffer { λ r. ⌜ now (code .exit) ≡ bufferAs (assemble (Tprog (bindingOf (now (now (declarations .entry)))) (comAt (now (now (nodes .entry))) row) (registersOf pool))) (now (code .entry)) (compileSaid r) ⌝ }
 {
     let need = need::need_com(declarations, nodes, row);
     if pool::count(pool) < need {
@@ -74,7 +74,7 @@ fn compile_tables(declarations: &[u32], nodes: &[u32], pool: u64, code: &mut [u3
                     let bases = layout.bases;
                     let cells = layout.cells;
                     let row = nodes.len() / 4 - 1;
-                    generate(declarations, nodes, &bases, row, cells, pool, code)
+                    generate(&declarations, &nodes, &bases, row, cells, pool, code)
                 }
             }
         }

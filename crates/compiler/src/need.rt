@@ -14,15 +14,15 @@ use rule::VALUE;
 use rule::WHILE;
 ghost use mathlib.Core.Path.{_≡_};
 ghost use Prim.Native.Nat.{_+_, _*_, _<_, _≤_};
-ghost use Rattle.rule.specs.Table.{declarationRows, bindingOf, expAt, comAt};
+ghost use Rattle.rule.specs.Table.{declarationLimit, declarationRows, bindingOf, expAt, comAt};
 ghost use Rattle.compiler.specs.Compile.{needNamed, needExp, needCom};
 ghost use Rattle.compiler.specs.Inside.{Rows, ExpRow, ComRow};
 ghost use lib.ListN.{length};
 
 // Of an identifier.
-fn need_name(declarations: &[u32], x: usize) -> u32
-    requires { ⌜ x < declarationRows (now declarations) ⌝ }
-    ensures { λ r. ⌜ r ≡ needNamed (bindingOf (now (declarations .entry)) x) ⌝ }
+fn need_name(declarations: &&[u32], x: usize) -> u32
+    requires { ⌜ (x < declarationLimit) × (x < declarationRows (now (now declarations))) ⌝ }
+    ensures { λ r. ⌜ r ≡ needNamed (bindingOf (now (now (declarations .entry))) x) ⌝ }
 {
     if declarations[x * 2] == CONSTANT {
         0
@@ -32,11 +32,10 @@ fn need_name(declarations: &[u32], x: usize) -> u32
 }
 
 // Of a row's expression.
-pub(crate) fn need_exp(declarations: &[u32], nodes: &[u32], row: usize) -> u32
-    requires { ⌜ Rows (now declarations) (now nodes) ⌝ }
-    requires { ⌜ ExpRow (now nodes) row ⌝ }
-    requires { ⌜ row < 65536 ⌝ }
-    ensures { λ r. ⌜ r ≡ needExp (bindingOf (now (declarations .entry))) (expAt (now (nodes .entry)) row) ⌝ }
+pub(crate) fn need_exp(declarations: &&[u32], nodes: &&[u32], row: usize) -> u32
+    requires { ⌜ Rows (now (now declarations)) (now (now nodes)) ⌝ }
+    requires { ⌜ ExpRow (now (now nodes)) row ⌝ }
+    ensures { λ r. ⌜ r ≡ needExp (bindingOf (now (now (declarations .entry)))) (expAt (now (now (nodes .entry))) row) ⌝ }
     ensures { λ r. ⌜ r ≤ row * 2 + 2 ⌝ }
 {
     let kind = word(nodes, row, 0);
@@ -58,11 +57,10 @@ pub(crate) fn need_exp(declarations: &[u32], nodes: &[u32], row: usize) -> u32
 }
 
 // Of a row's command.
-pub(crate) fn need_com(declarations: &[u32], nodes: &[u32], row: usize) -> u32
-    requires { ⌜ Rows (now declarations) (now nodes) ⌝ }
-    requires { ⌜ ComRow (now nodes) row ⌝ }
-    requires { ⌜ row < 65536 ⌝ }
-    ensures { λ r. ⌜ r ≡ needCom (bindingOf (now (declarations .entry))) (comAt (now (nodes .entry)) row) ⌝ }
+pub(crate) fn need_com(declarations: &&[u32], nodes: &&[u32], row: usize) -> u32
+    requires { ⌜ Rows (now (now declarations)) (now (now nodes)) ⌝ }
+    requires { ⌜ ComRow (now (now nodes)) row ⌝ }
+    ensures { λ r. ⌜ r ≡ needCom (bindingOf (now (now (declarations .entry)))) (comAt (now (now (nodes .entry))) row) ⌝ }
     ensures { λ r. ⌜ r ≤ row * 2 + 3 ⌝ }
 {
     let kind = word(nodes, row, 0);

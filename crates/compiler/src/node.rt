@@ -1,21 +1,21 @@
 // The words of a node's row.
 ghost use mathlib.Core.Path.{_≡_};
-ghost use Prim.Native.Nat.{_+_, _*_, _<_, max};
+ghost use Prim.Native.Nat.{_+_, _*_, _<_, _≤_, max};
 ghost use lib.ListN.{length};
-ghost use Rattle.rule.specs.Table.{word as wordOf};
+ghost use Rattle.rule.specs.Table.{rowLimit, word as wordOf};
 
 // Word k of a row.
-pub(crate) fn word(nodes: &[u32], row: usize, k: usize) -> u32
-    requires { ⌜ row * 4 + k < length (now nodes) ⌝ }
-    ensures { λ r. ⌜ r ≡ wordOf (now (nodes .entry)) row k ⌝ }
+pub(crate) fn word(nodes: &&[u32], row: usize, k: usize) -> u32
+    requires { ⌜ (row * 4 + k < length (now (now nodes))) × (length (now (now nodes)) ≤ rowLimit * 4) ⌝ }
+    ensures { λ r. ⌜ r ≡ wordOf (now (now (nodes .entry))) row k ⌝ }
 {
     nodes[row * 4 + k]
 }
 
 // Word k of a row, which names another row.
-pub(crate) fn link(nodes: &[u32], row: usize, k: usize) -> usize
-    requires { ⌜ row * 4 + k < length (now nodes) ⌝ }
-    ensures { λ r. ⌜ r ≡ wordOf (now (nodes .entry)) row k ⌝ }
+pub(crate) fn link(nodes: &&[u32], row: usize, k: usize) -> usize
+    requires { ⌜ (row * 4 + k < length (now (now nodes))) × (length (now (now nodes)) ≤ rowLimit * 4) ⌝ }
+    ensures { λ r. ⌜ r ≡ wordOf (now (now (nodes .entry))) row k ⌝ }
 {
     wide(nodes[row * 4 + k])
 }

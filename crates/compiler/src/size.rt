@@ -15,14 +15,14 @@ use rule::WHILE;
 ghost use mathlib.Core.Path.{_≡_};
 ghost use Prim.Native.Nat.{_<_};
 ghost use Rattle.rule.specs.Kind.{kindOf};
-ghost use Rattle.rule.specs.Table.{declarationRows, bindingOf, expAt, comAt};
+ghost use Rattle.rule.specs.Table.{declarationLimit, declarationRows, bindingOf, expAt, comAt};
 ghost use Rattle.compiler.specs.Compile.{sizeNamed, sizeOp, sizeExp, sizeCom};
 ghost use Rattle.compiler.specs.Inside.{opOf, Binary, Rows, ExpRow, ComRow};
 
 // Of an identifier.
-fn size_name(declarations: &[u32], x: usize) -> u32
-    requires { ⌜ x < declarationRows (now declarations) ⌝ }
-    ensures { λ r. ⌜ r ≡ sizeNamed (bindingOf (now (declarations .entry)) x) ⌝ }
+fn size_name(declarations: &&[u32], x: usize) -> u32
+    requires { ⌜ (x < declarationLimit) × (x < declarationRows (now (now declarations))) ⌝ }
+    ensures { λ r. ⌜ r ≡ sizeNamed (bindingOf (now (now (declarations .entry))) x) ⌝ }
 {
     if declarations[x * 2] == CONSTANT {
         1
@@ -40,11 +40,11 @@ fn size_op(kind: u32) -> u32
 }
 
 // Of a row's expression.
-pub(crate) fn size_exp(declarations: &[u32], nodes: &[u32], row: usize) -> u32
-    requires { ⌜ Rows (now declarations) (now nodes) ⌝ }
-    requires { ⌜ ExpRow (now nodes) row ⌝ }
-    requires { ⌜ sizeExp (bindingOf (now declarations)) (expAt (now nodes) row) < 4294967296 ⌝ }
-    ensures { λ r. ⌜ r ≡ sizeExp (bindingOf (now (declarations .entry))) (expAt (now (nodes .entry)) row) ⌝ }
+pub(crate) fn size_exp(declarations: &&[u32], nodes: &&[u32], row: usize) -> u32
+    requires { ⌜ Rows (now (now declarations)) (now (now nodes)) ⌝ }
+    requires { ⌜ ExpRow (now (now nodes)) row ⌝ }
+    requires { ⌜ sizeExp (bindingOf (now (now declarations))) (expAt (now (now nodes)) row) < 4294967296 ⌝ }
+    ensures { λ r. ⌜ r ≡ sizeExp (bindingOf (now (now (declarations .entry)))) (expAt (now (now (nodes .entry))) row) ⌝ }
 {
     let kind = word(nodes, row, 0);
     if kind == VALUE {
@@ -65,11 +65,11 @@ pub(crate) fn size_exp(declarations: &[u32], nodes: &[u32], row: usize) -> u32
 }
 
 // Of a row's command.
-pub(crate) fn size_com(declarations: &[u32], nodes: &[u32], row: usize) -> u32
-    requires { ⌜ Rows (now declarations) (now nodes) ⌝ }
-    requires { ⌜ ComRow (now nodes) row ⌝ }
-    requires { ⌜ sizeCom (bindingOf (now declarations)) (comAt (now nodes) row) < 4294967296 ⌝ }
-    ensures { λ r. ⌜ r ≡ sizeCom (bindingOf (now (declarations .entry))) (comAt (now (nodes .entry)) row) ⌝ }
+pub(crate) fn size_com(declarations: &&[u32], nodes: &&[u32], row: usize) -> u32
+    requires { ⌜ Rows (now (now declarations)) (now (now nodes)) ⌝ }
+    requires { ⌜ ComRow (now (now nodes)) row ⌝ }
+    requires { ⌜ sizeCom (bindingOf (now (now declarations))) (comAt (now (now nodes)) row) < 4294967296 ⌝ }
+    ensures { λ r. ⌜ r ≡ sizeCom (bindingOf (now (now (declarations .entry)))) (comAt (now (now (nodes .entry))) row) ⌝ }
 {
     let kind = word(nodes, row, 0);
     if kind == SKIP {

@@ -96,7 +96,7 @@ module _ (ds ns : List ℕ) (pool : ℕ) (code : List ℕ) (n c k : ℕ) (said :
   length-said = size-prog (bindingOf ds) (program ns) (registersOf pool) ∙ sym count-said
 
   pub small-said : n * 4 ≤ 262144
-  small-said = let h = ready ds ns (checks .0) (checks .4) (checks .5) .small in omega (arith, count-said)
+  small-said = let h = ready ds ns (checks .0) (checks .1) (checks .4) (checks .5) .small in omega (arith, count-said)
 
   pub length-code : length (assemble (Tprog (bindingOf ds) (program ns) (registersOf pool))) ≡ n * 4
   length-code =

@@ -17,10 +17,10 @@ use Rattle.compiler.proofs.compile_tables.Tie as tie
 
 module _ (s : tie.Start) where
   abbrev ds : List ℕ
-  ds = now (s .args .declarations)
+  ds = now (s .args .t1)
 
   abbrev ns : List ℕ
-  ns = now (s .args .nodes)
+  ns = now (s .args .t2)
 
   -- refusals 11 and 12, which come last
   abbrev rest : Verdict
@@ -51,16 +51,16 @@ sub-row : tie.Need-sub-row
 sub-row c =
     let s = c .before .before .before .before .before .before .before .before .before .before in
     let p = nodes-pass (ds s) (ns s) (sym (rows-verdict (ds s) (ns s) (c .before .before .before .check-rows .ensures)) ∙ c .before .enum-told2 .given .1) in
-    let h = ready (ds s) (ns s) (s .pre .0) (p .0) (p .1) .some in
+    let h = ready (ds s) (ns s) (s .pre .0) (s .pre .1) (p .0) (p .1) .some in
     omega arith
 
 generate-requires : tie.Need-generate-requires
 generate-requires c κs =
-    let s = c .before .before .before .before .before .before .before .before .before .before .before .before in
-    let p = nodes-pass (ds s) (ns s) (sym (rows-verdict (ds s) (ns s) (c .before .before .before .before .before .check-rows .ensures)) ∙ c .before .before .before .enum-told2 .given .1) in
-    let r = ready (ds s) (ns s) (s .pre .0) (p .0) (p .1) in
+    let s = c .before .before .before .before .before .before .before .before .before .before .before .before .before .before in
+    let p = nodes-pass (ds s) (ns s) (sym (rows-verdict (ds s) (ns s) (c .before .before .before .before .before .before .before .check-rows .ensures)) ∙ c .before .before .before .before .before .enum-told2 .given .1) in
+    let r = ready (ds s) (ns s) (s .pre .0) (s .pre .1) (p .0) (p .1) in
     let b = r .small in
-    (r .rows-fit, (layout-based (ds s) (s .pre .1) _ (c .before .before .before .before .before .before .before .before .lay-out .ensures) (c .before .before .before .before .before .before .enum-told .given .1), ((r .last, r .few), omega arith)))
+    (r .rows-fit, (layout-based (ds s) (s .pre .1) _ (c .before .before .before .before .before .before .before .before .before .before .lay-out .ensures) (c .before .before .before .before .before .before .before .before .enum-told .given .1), (r .last, omega arith)))
 
 returns : tie.Need-returns
 returns c =
@@ -78,10 +78,10 @@ same-length c = search needs
 
 returns-3 : tie.Need-returns-3
 returns-3 c =
-    let s = c .before .before .before .before .before .before .before .before .before .before .before .before .before .before .before in
-    let d = layout-says (ds s) (s .pre .1) _ (c .before .before .before .before .before .before .before .before .before .before .before .lay-out .ensures) ∙ c .before .before .before .before .before .before .before .before .before .enum-told .given .1 in
-    let t = tables-then (ds s) (ns s) Passes (rest s) (s .pre .0) d (sym (rows-verdict (ds s) (ns s) (c .before .before .before .before .before .before .before .before .check-rows .ensures)) ∙ c .before .before .before .before .before .before .enum-told2 .given .1) in
-    let n = layout-counts (ds s) (s .pre .1) _ (c .before .before .before .before .before .before .before .before .before .before .before .lay-out .ensures) (c .before .before .before .before .before .before .before .before .before .enum-told .given .1) in
+    let s = c .before .before .before .before .before .before .before .before .before .before .before .before .before .before .before .before .before in
+    let d = layout-says (ds s) (s .pre .1) _ (c .before .before .before .before .before .before .before .before .before .before .before .before .before .lay-out .ensures) ∙ c .before .before .before .before .before .before .before .before .before .before .before .enum-told .given .1 in
+    let t = tables-then (ds s) (ns s) Passes (rest s) (s .pre .0) d (sym (rows-verdict (ds s) (ns s) (c .before .before .before .before .before .before .before .before .before .before .check-rows .ensures)) ∙ c .before .before .before .before .before .before .before .before .enum-told2 .given .1) in
+    let n = layout-counts (ds s) (s .pre .1) _ (c .before .before .before .before .before .before .before .before .before .before .before .before .before .lay-out .ensures) (c .before .before .before .before .before .before .before .before .before .before .before .enum-told .given .1) in
     (c .before .before .generate .ensures .0 ∙ ap (λ (c : ℕ). saidAs (instructions (ds s) (ns s)) c (need (ds s) (ns s)) (rest s)) n ∙ sym (ap (said s) t), c .before .before .generate .ensures .1)
 
 pub compile-tables-spec : {M : Type 1} → statement M

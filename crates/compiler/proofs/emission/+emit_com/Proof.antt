@@ -35,15 +35,15 @@ use Rattle.compiler.proofs.pool.lowest.Reads as lowest-reads
 use Rattle.compiler.proofs.emission.+emit_com.{statement}
 use Rattle.compiler.proofs.emission.+emit_com.Tie.{close}
 
-abbrev μ : Measures 4 emit-com-kinds.ps ℕ
+abbrev μ : Measures 6 emit-com-kinds.ps ℕ
 μ κs a = a .1 .1 .1 .0
 
 module _ (t : ℕ) where
-  abbrev pre : In 4 emit-com-kinds.ps
-  pre = and 4 emit-com-kinds.ps (is 4 emit-com-kinds.ps μ t) emit-com.Pre
+  abbrev pre : In 6 emit-com-kinds.ps
+  pre = and 6 emit-com-kinds.ps (is 6 emit-com-kinds.ps μ t) emit-com.Pre
 
-  abbrev pre< : In 4 emit-com-kinds.ps
-  pre< = and 4 emit-com-kinds.ps (falls 4 emit-com-kinds.ps _<_ μ t) emit-com.Pre
+  abbrev pre< : In 6 emit-com-kinds.ps
+  pre< = and 6 emit-com-kinds.ps (falls 6 emit-com-kinds.ps _<_ μ t) emit-com.Pre
 
   abbrev us : emit-com-lts.Claims
   us = (word-reads.Asked, word-reads.Learnt, put-reads.Asked, put-reads.Learnt, emit-assign-reads.Asked, emit-assign-reads.Learnt, emit-assign-element-reads.Asked, emit-assign-element-reads.Learnt, link-reads.Asked, link-reads.Learnt, pre<, emit-com.Post, lowest-reads.Asked, lowest-reads.Learnt, cleared-reads.Asked, cleared-reads.Learnt, emit-exp-reads.Asked, emit-exp-reads.Learnt, label-reads.Asked, label-reads.Learnt)
@@ -51,13 +51,13 @@ module _ (t : ℕ) where
   -- what is known of the row, once its kind is read
   module _ (c : emit-com-lts.After-word us pre emit-com.Post) where
     abbrev s : emit-com-lts.Start us pre emit-com.Post
-    s = c .before .before .before .before
+    s = c .before .before
 
     abbrev ds : List ℕ
-    ds = now (s .args .declarations)
+    ds = now (now (s .args .declarations))
 
     abbrev ns : List ℕ
-    ns = now (s .args .nodes)
+    ns = now (now (s .args .nodes))
 
     abbrev bs : List ℕ
     bs = now (s .args .bases)
@@ -168,7 +168,7 @@ module _ (t : ℕ) where
         after-body (ρ w₂) (l w₂) (p w₂) (F w₂) (choose-fits w₂ (c .before .before .before .before .before .before .before .before .before .before .before .before .before .before .before .if1 .left) (c .before .before .before .before .before .before .before .before .before .before .before .before .before .before .if2 .left) (c .before .before .before .before .before .before .before .before .before .before .before .before .before .if3 .left) (c .before .before .before .before .before .before .before .before .before .before .before .before .if4 .left) n) (px (c .before .before .before .before .before)) py
 
   word-requires : emit-com-lts.Need-word-requires us pre emit-com.Post
-  word-requires c κs = omega (arith, c .before .before .before .pre .1 .1 .1 .0 .there)
+  word-requires c κs = let h = c .before .pre .1 in omega (arith, h .1 .1 .0 .there, h .0 .short)
 
   put-requires : emit-com-lts.Need-put-requires us pre emit-com.Post
   unfolding sizeCom
@@ -182,7 +182,7 @@ module _ (t : ℕ) where
   returns c = let w = c .before .before .before .before .before in done w (at w R.skip-read (c .before .before .before .before .if1 .taken)) (c .before .before .put .ensures)
 
   emit-assign-requires : emit-com-lts.Need-emit-assign-requires us pre emit-com.Post
-  emit-assign-requires c κs = let s = c .before .before .before .before .before .before .before in (s .pre .1 .0, (s .pre .1 .1 .0, ((s .pre .1 .1 .1 .0, sym (c .before .before .before .word .ensures) ∙ c .before .if2 .taken), s .pre .1 .1 .1 .1)))
+  emit-assign-requires c κs = let s = c .before .before .before .before .before in (s .pre .1 .0, (s .pre .1 .1 .0, ((s .pre .1 .1 .1 .0, sym (c .before .before .before .word .ensures) ∙ c .before .if2 .taken), s .pre .1 .1 .1 .1)))
 
   same-length-2 : emit-com-lts.Need-same-length-2 us pre emit-com.Post
   same-length-2 c = search needs
@@ -191,7 +191,7 @@ module _ (t : ℕ) where
   returns-2 c = c .before .before .emit-assign .ensures
 
   emit-assign-element-requires : emit-com-lts.Need-emit-assign-element-requires us pre emit-com.Post
-  emit-assign-element-requires c κs = let s = c .before .before .before .before .before .before .before .before in (s .pre .1 .0, (s .pre .1 .1 .0, ((s .pre .1 .1 .1 .0, sym (c .before .before .before .before .word .ensures) ∙ c .before .if3 .taken), s .pre .1 .1 .1 .1)))
+  emit-assign-element-requires c κs = let s = c .before .before .before .before .before .before in (s .pre .1 .0, (s .pre .1 .1 .0, ((s .pre .1 .1 .1 .0, sym (c .before .before .before .before .word .ensures) ∙ c .before .if3 .taken), s .pre .1 .1 .1 .1)))
 
   same-length-3 : emit-com-lts.Need-same-length-3 us pre emit-com.Post
   same-length-3 c = search needs
@@ -200,7 +200,7 @@ module _ (t : ℕ) where
   returns-3 c = c .before .before .emit-assign-element .ensures
 
   link-requires : emit-com-lts.Need-link-requires us pre emit-com.Post
-  link-requires c κs = omega (arith, c .before .before .before .before .before .before .before .before .pre .1 .1 .1 .0 .there)
+  link-requires c κs = let h = c .before .before .before .before .before .before .pre .1 in omega (arith, h .1 .1 .0 .there, h .0 .short)
 
   emit-com-requires : emit-com-lts.Need-emit-com-requires us pre emit-com.Post
   emit-com-requires c κs =
@@ -209,7 +209,7 @@ module _ (t : ℕ) where
       (fit-first (ρ w) (l w) (p w) (F w) (C w 1) (C w 2) (fit-as w (at w R.sequence-read (c .before .before .if4 .taken))))
 
   link-requires-2 : emit-com-lts.Need-link-requires-2 us pre emit-com.Post
-  link-requires-2 c κs = omega (arith, c .before .before .before .before .before .before .before .before .before .before .before .before .before .pre .1 .1 .1 .0 .there)
+  link-requires-2 c κs = let h = c .before .before .before .before .before .before .before .before .before .before .before .pre .1 in omega (arith, h .1 .1 .0 .there, h .0 .short)
 
   emit-com-requires-2 : emit-com-lts.Need-emit-com-requires-2 us pre emit-com.Post
   emit-com-requires-2 c κs =
@@ -232,7 +232,7 @@ module _ (t : ℕ) where
   lowest-requires c κs = shared (c .before .before .before .before) (c .before .before .before .if1 .left) (c .before .before .if2 .left) (c .before .if3 .left) (c .if4 .left) (λ m f. f .some)
 
   link-requires-3 : emit-com-lts.Need-link-requires-3 us pre emit-com.Post
-  link-requires-3 c κs = omega (arith, c .before .before .before .before .before .before .before .before .before .pre .1 .1 .1 .0 .there)
+  link-requires-3 c κs = let h = c .before .before .before .before .before .before .before .pre .1 in omega (arith, h .1 .1 .0 .there, h .0 .short)
 
   cleared-requires : emit-com-lts.Need-cleared-requires us pre emit-com.Post
   cleared-requires c κs = shared (c .before .before .before .before .before .before) (c .before .before .before .before .before .if1 .left) (c .before .before .before .before .if2 .left) (c .before .before .before .if3 .left) (c .before .before .if4 .left) (λ m f. f .some)
@@ -253,7 +253,7 @@ module _ (t : ℕ) where
       )
 
   link-requires-4 : emit-com-lts.Need-link-requires-4 us pre emit-com.Post
-  link-requires-4 c κs = omega (arith, c .before .before .before .before .before .before .before .before .before .before .before .before .before .before .before .pre .1 .1 .1 .0 .there)
+  link-requires-4 c κs = let h = c .before .before .before .before .before .before .before .before .before .before .before .before .before .pre .1 in omega (arith, h .1 .1 .0 .there, h .0 .short)
 
   add-emit-com : emit-com-lts.Need-add-emit-com us pre emit-com.Post
   add-emit-com c = let h = body-fits (c .before .before) .room .small in omega arith
@@ -288,7 +288,7 @@ module _ (t : ℕ) where
       (while-emitted (ρ w) (F w) (p w) (c .before .before .before .before .before .before .before .before .before .before .before .before .before .before .before .before .before .before .before .before .before .before .lowest .ensures) (c .before .before .before .before .before .before .before .before .before .before .before .before .before .before .before .before .before .before .before .before .cleared .ensures) (E w 1) (x (c .before .before .before .before .before .before .before .before .before .before .before .before .before .before .before .before)) (C w 2) (add-one (c .before .before .before .before .before .before .before .before .before .before .before .before .before .before .before .before .before .before .emit-exp .result)) (y (c .before .before .before .before .before .before .before .before .before .before .before)) (c .before .before .before .before .before .before .before .before .label .ensures) (c .before .before .before .before .before .before .before .put2 .ensures) (c .before .before .before .label2 .ensures) (c .before .before .put3 .ensures))
 
   link-requires-5 : emit-com-lts.Need-link-requires-5 us pre emit-com.Post
-  link-requires-5 c κs = omega (arith, c .before .before .before .before .before .before .before .before .before .before .before .before .before .before .before .before .before .before .before .before .before .pre .1 .1 .1 .0 .there)
+  link-requires-5 c κs = let h = c .before .before .before .before .before .before .before .before .before .before .before .before .before .before .before .before .before .before .before .pre .1 in omega (arith, h .1 .1 .0 .there, h .0 .short)
 
   add-emit-com-2 : emit-com-lts.Need-add-emit-com-2 us pre emit-com.Post
   add-emit-com-2 c = let h = after-choose (c .before .before .before) (c .before .before .if5 .left) in omega arith

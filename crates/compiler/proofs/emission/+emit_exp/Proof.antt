@@ -9,7 +9,7 @@ use lib.ListN.{length, getD}
 use Rattle.instruction.specs.Instruction.{ins, addi}
 use Rattle.rule.specs.Tree.{Binding, Exp, base}
 use Rattle.rule.specs.Kind.{kindOf}
-use Rattle.rule.specs.Table.{word, declarationRows, firstCell, bindingOf, expAt}
+use Rattle.rule.specs.Table.{declarationLimit, word, declarationRows, firstCell, bindingOf, expAt}
 use Rattle.compiler.specs.Pool.{registersOf, without}
 use Rattle.compiler.specs.Compile.{needNamed, sizeNamed, needExp, sizeExp, namedCode, loadCode, leftPool, Texp}
 use Rattle.compiler.specs.Inside.{opOf, Rows, Based, ExpRow, Room, Emitted, Fit}
@@ -17,7 +17,7 @@ use Rattle.compiler.proofs.Bindings.{base-array}
 use Rattle.compiler.proofs.Emitting.{emitted-as}
 use Rattle.compiler.proofs.Constructs.{past, not-emitted, element-emitted, binary-emitted}
 use Rattle.compiler.proofs.Fitting.{length-without, fit-not, fit-element, fit-left, fit-right, room-not, room-element, room-operator}
-use Rattle.compiler.proofs.Calls.{fits-as-many}
+use Rattle.compiler.proofs.Calls.{based-at, fits-as-many}
 use Rattle.compiler.proofs.Reading as R
 use Rattle.compiler.proofs.Reading.{SubExp}
 use Prim.Native.Nat.{ℕ, _<_}
@@ -38,15 +38,15 @@ use Rattle.compiler.proofs.pool.lowest.Reads as lowest-reads
 use Rattle.compiler.proofs.emission.+emit_exp.{statement}
 use Rattle.compiler.proofs.emission.+emit_exp.Tie.{close}
 
-abbrev μ : Measures 4 emit-exp-kinds.ps ℕ
+abbrev μ : Measures 6 emit-exp-kinds.ps ℕ
 μ κs a = a .1 .1 .1 .0
 
 module _ (t : ℕ) where
-  abbrev pre : In 4 emit-exp-kinds.ps
-  pre = and 4 emit-exp-kinds.ps (is 4 emit-exp-kinds.ps μ t) emit-exp.Pre
+  abbrev pre : In 6 emit-exp-kinds.ps
+  pre = and 6 emit-exp-kinds.ps (is 6 emit-exp-kinds.ps μ t) emit-exp.Pre
 
-  abbrev pre< : In 4 emit-exp-kinds.ps
-  pre< = and 4 emit-exp-kinds.ps (falls 4 emit-exp-kinds.ps _<_ μ t) emit-exp.Pre
+  abbrev pre< : In 6 emit-exp-kinds.ps
+  pre< = and 6 emit-exp-kinds.ps (falls 6 emit-exp-kinds.ps _<_ μ t) emit-exp.Pre
 
   abbrev us : emit-exp-lts.Claims
   us = (word-reads.Asked, word-reads.Learnt, put-reads.Asked, put-reads.Learnt, link-reads.Asked, link-reads.Learnt, emit-name-reads.Asked, emit-name-reads.Learnt, lowest-reads.Asked, lowest-reads.Learnt, cleared-reads.Asked, cleared-reads.Learnt, pre<, emit-exp.Post, emit-load-reads.Asked, emit-load-reads.Learnt, emit-not-reads.Asked, emit-not-reads.Learnt, emit-operator-reads.Asked, emit-operator-reads.Learnt)
@@ -54,13 +54,13 @@ module _ (t : ℕ) where
   -- what is known of the row, once its kind is read
   module _ (c : emit-exp-lts.After-word us pre emit-exp.Post) where
     abbrev s : emit-exp-lts.Start us pre emit-exp.Post
-    s = c .before .before .before .before
+    s = c .before .before
 
     abbrev ds : List ℕ
-    ds = now (s .args .declarations)
+    ds = now (now (s .args .declarations))
 
     abbrev ns : List ℕ
-    ns = now (s .args .nodes)
+    ns = now (now (s .args .nodes))
 
     abbrev bs : List ℕ
     bs = now (s .args .bases)
@@ -119,8 +119,8 @@ module _ (t : ℕ) where
     done e x = emitted-as x (sym (ap (λ (y : Exp). Texp ρ y r F p) e))
 
     -- the cell of a name, in the array of bases
-    based : (x : ℕ) → x < declarationRows ds → (x < 256) × (getD bs x 0 ≡ firstCell ds x)
-    based x h = let b = s .pre .1 .1 .0 in let f = b .few in (omega arith, b .based x h)
+    based : (x : ℕ) → x < declarationRows ds → (x < declarationLimit) × (getD bs x 0 ≡ firstCell ds x)
+    based x h = based-at ds ns bs (s .pre .1 .0) (s .pre .1 .1 .0) x h
 
     module _ (n1 : k ≡ 1 → ⊥) (n2 : k ≡ 2 → ⊥) where
       -- what is neither a value nor an identifier needs a register
@@ -165,10 +165,11 @@ module _ (t : ℕ) where
   unfolding needExp sizeExp
   emit-name-requires c κs =
       let w = c .before .before .before .before in
-      let f = fit-as w (at w R.ident-read (c .before .before .if2 .taken)) in (
+      let f = fit-as w (at w R.ident-read (c .before .before .if2 .taken)) in
+      let known = at w R.ident-known (c .before .before .if2 .taken) .0 in (
         s w .pre .1 .1 .0,
-        subst (λ (x : ℕ). (x < declarationRows (ds w)) × ((needNamed (ρ w x) ≤ length (F w)) × Room (l w) (p w) (sizeNamed (ρ w x)))) (sym (c .before .link .ensures))
-            (at w R.ident-known (c .before .before .if2 .taken) .0, (f .need, f .room)),
+        subst (λ (x : ℕ). ((x < declarationLimit) × (x < declarationRows (ds w))) × ((needNamed (ρ w x) ≤ length (F w)) × Room (l w) (p w) (sizeNamed (ρ w x)))) (sym (c .before .link .ensures))
+            ((based w (word (ns w) (i w) 1) known .0, known), (f .need, f .room)),
       )
 
   same-length-2 : emit-exp-lts.Need-same-length-2 us pre emit-exp.Post

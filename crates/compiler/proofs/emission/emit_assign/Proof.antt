@@ -21,10 +21,10 @@ use Rattle.compiler.proofs.emission.emit_assign.Tie as tie
 
 module _ (s : tie.Start) where
   abbrev ds : List ℕ
-  ds = now (s .args .declarations)
+  ds = now (now (s .args .declarations))
 
   abbrev ns : List ℕ
-  ns = now (s .args .nodes)
+  ns = now (now (s .args .nodes))
 
   abbrev bs : List ℕ
   bs = now (s .args .bases)
@@ -69,17 +69,17 @@ module _ (s : tie.Start) where
   parts = fit-assign ρ l p F x (op 2) fits
 
 lowest-requires : tie.Need-lowest-requires
-lowest-requires c κs = parts (c .before .before .before) .0
+lowest-requires c κs = parts (c .before) .0
 
 cleared-requires : tie.Need-cleared-requires
-cleared-requires c κs = parts (c .before .before .before .before) .0
+cleared-requires c κs = parts (c .before .before) .0
 
 link-requires : tie.Need-link-requires
 link-requires c κs = search needs
 
 emit-exp-requires : tie.Need-emit-exp-requires
 emit-exp-requires c κs =
-    let s = c .before .before .before .before .before .before .before in
+    let s = c .before .before .before .before .before in
     let v = at s R.assign-value (kind s) in (
       s .pre .0,
       (
@@ -96,9 +96,9 @@ link-requires-2 c κs = search needs
 
 emit-store-requires : tie.Need-emit-store-requires
 emit-store-requires c κs =
-    let s = c .before .before .before .before .before .before .before .before .before .before .before .before in
+    let s = c .before .before .before .before .before .before .before .before .before .before in
     let y = exp-laid (ρ s) (ns s) (c .before .before .before .before .before .before .link .result) (word (ns s) (i s) 2) (c .before .before .before .before .before .before .link .ensures) (c .before .before .before .before .before .before .before .before .lowest .result) (registersOf (c .before .before .before .before .before .before .before .cleared .result)) (c .before .before .before .before .emit-exp .ensures) in
-    let n = based-at (ds s) (bs s) (s .pre .1 .0) (x s) (at s R.assign-name (kind s) .0) .0 in
+    let n = based-at (ds s) (ns s) (bs s) (s .pre .0) (s .pre .1 .0) (x s) (at s R.assign-name (kind s) .0) .0 in
     let e = c .before .link2 .ensures in
     (omega arith, (rw (c .before .before .before .before .before .before .before .cleared .ensures) (parts s .2), room-assign (ρ s) (l s) (p s) (F s) (x s) (op s 2) (fits s) (past (ρ s) (op s 2) (c .before .before .before .before .before .before .before .before .lowest .result) (registersOf (c .before .before .before .before .before .before .before .cleared .result)) y)))
 
@@ -107,10 +107,10 @@ same-length c = search needs
 
 returns : tie.Need-returns
 returns c =
-    let s = c .before .before .before .before .before .before .before .before .before .before .before .before .before .before .before in
+    let s = c .before .before .before .before .before .before .before .before .before .before .before .before .before in
     let y = exp-laid (ρ s) (ns s) (c .before .before .before .before .before .before .before .before .before .link .result) (word (ns s) (i s) 2) (c .before .before .before .before .before .before .before .before .before .link .ensures) (c .before .before .before .before .before .before .before .before .before .before .before .lowest .result) (registersOf (c .before .before .before .before .before .before .before .before .before .before .cleared .result)) (c .before .before .before .before .before .before .before .emit-exp .ensures) in
     let n = at s R.assign-name (kind s) in
-    let cell : getD (bs s) (c .before .before .before .before .link2 .result) 0 ≡ base (ρ s (x s)) = ap (λ (m : ℕ). getD (bs s) m 0) (c .before .before .before .before .link2 .ensures) ∙ based-at (ds s) (bs s) (s .pre .1 .0) (x s) (n .0) .1 ∙ sym (base-variable (ds s) (x s) (n .1)) in
+    let cell : getD (bs s) (c .before .before .before .before .link2 .result) 0 ≡ base (ρ s (x s)) = ap (λ (m : ℕ). getD (bs s) m 0) (c .before .before .before .before .link2 .ensures) ∙ based-at (ds s) (ns s) (bs s) (s .pre .0) (s .pre .1 .0) (x s) (n .0) .1 ∙ sym (base-variable (ds s) (x s) (n .1)) in
     let z = emitted-as (c .before .before .emit-store .ensures) (ap (λ (a : ℕ). storeCode a 0 (c .before .before .before .before .before .before .before .before .before .before .before .lowest .result) (registersOf (c .before .before .before .before .before .before .before .before .before .before .cleared .result))) cell) in
     done s (at s R.assign-read (kind s)) (assign-emitted (ρ s) (F s) (p s) (c .before .before .before .before .before .before .before .before .before .before .before .lowest .ensures) (c .before .before .before .before .before .before .before .before .before .before .cleared .ensures) (op s 2) y (x s) z)
 

@@ -21,10 +21,10 @@ use Rattle.compiler.proofs.emission.emit_assign_element.Tie as tie
 
 module _ (s : tie.Start) where
   abbrev ds : List ℕ
-  ds = now (s .args .declarations)
+  ds = now (now (s .args .declarations))
 
   abbrev ns : List ℕ
-  ns = now (s .args .nodes)
+  ns = now (now (s .args .nodes))
 
   abbrev bs : List ℕ
   bs = now (s .args .bases)
@@ -69,17 +69,17 @@ module _ (s : tie.Start) where
   parts = fit-assignAt ρ l p F x (op 2) (op 3) fits
 
 lowest-requires : tie.Need-lowest-requires
-lowest-requires c κs = parts (c .before .before .before) .0
+lowest-requires c κs = parts (c .before) .0
 
 cleared-requires : tie.Need-cleared-requires
-cleared-requires c κs = parts (c .before .before .before .before) .0
+cleared-requires c κs = parts (c .before .before) .0
 
 link-requires : tie.Need-link-requires
 link-requires c κs = search needs
 
 emit-exp-requires : tie.Need-emit-exp-requires
 emit-exp-requires c κs =
-    let s = c .before .before .before .before .before .before .before in
+    let s = c .before .before .before .before .before in
     let v = at s R.assignAt-index (kind s) in (
       s .pre .0,
       (
@@ -92,17 +92,17 @@ emit-exp-requires c κs =
     )
 
 lowest-requires-2 : tie.Need-lowest-requires-2
-lowest-requires-2 c κs = rw (c .before .before .before .before .before .cleared .ensures) (parts (c .before .before .before .before .before .before .before .before .before .before) .2)
+lowest-requires-2 c κs = rw (c .before .before .before .before .before .cleared .ensures) (parts (c .before .before .before .before .before .before .before .before) .2)
 
 cleared-requires-2 : tie.Need-cleared-requires-2
-cleared-requires-2 c κs = rw (c .before .before .before .before .before .before .cleared .ensures) (parts (c .before .before .before .before .before .before .before .before .before .before .before) .2)
+cleared-requires-2 c κs = rw (c .before .before .before .before .before .before .cleared .ensures) (parts (c .before .before .before .before .before .before .before .before .before) .2)
 
 link-requires-2 : tie.Need-link-requires-2
 link-requires-2 c κs = search needs
 
 emit-exp-requires-2 : tie.Need-emit-exp-requires-2
 emit-exp-requires-2 c κs =
-    let s = c .before .before .before .before .before .before .before .before .before .before .before .before .before .before in
+    let s = c .before .before .before .before .before .before .before .before .before .before .before .before in
     let v = at s R.assignAt-value (kind s) in
     let y = exp-laid (ρ s) (ns s) (c .before .before .before .before .before .before .before .before .link .result) (word (ns s) (i s) 2) (c .before .before .before .before .before .before .before .before .link .ensures) (c .before .before .before .before .before .before .before .before .before .before .lowest .result) (registersOf (c .before .before .before .before .before .before .before .before .before .cleared .result)) (c .before .before .before .before .before .before .emit-exp .ensures) in (
       s .pre .0,
@@ -117,14 +117,14 @@ emit-exp-requires-2 c κs =
     )
 
 link-requires-3 : tie.Need-link-requires-3
-link-requires-3 c κs = let h = c .before .before .before .before .before .before .before .before .before .before .before .before .before .before .before .before .before .pre .1 .1 .0 .0 .there in omega (arith, h)
+link-requires-3 c κs = let h = c .before .before .before .before .before .before .before .before .before .before .before .before .before .before .before .pre .1 .1 .0 .0 .there in omega (arith, h)
 
 emit-store-requires : tie.Need-emit-store-requires
 emit-store-requires c κs =
-    let s = c .before .before .before .before .before .before .before .before .before .before .before .before .before .before .before .before .before .before .before in
+    let s = c .before .before .before .before .before .before .before .before .before .before .before .before .before .before .before .before .before in
     let y = exp-laid (ρ s) (ns s) (c .before .before .before .before .before .before .before .before .before .before .before .before .before .link .result) (word (ns s) (i s) 2) (c .before .before .before .before .before .before .before .before .before .before .before .before .before .link .ensures) (c .before .before .before .before .before .before .before .before .before .before .before .before .before .before .before .lowest .result) (registersOf (c .before .before .before .before .before .before .before .before .before .before .before .before .before .before .cleared .result)) (c .before .before .before .before .before .before .before .before .before .before .before .emit-exp .ensures) in
     let z = exp-laid (ρ s) (ns s) (c .before .before .before .before .before .before .link2 .result) (word (ns s) (i s) 3) (c .before .before .before .before .before .before .link2 .ensures) (c .before .before .before .before .before .before .before .before .lowest2 .result) (registersOf (c .before .before .before .before .before .before .before .cleared2 .result)) (c .before .before .before .before .emit-exp2 .ensures) in
-    let n = based-at (ds s) (bs s) (s .pre .1 .0) (x s) (at s R.assignAt-name (kind s) .0) .0 in
+    let n = based-at (ds s) (ns s) (bs s) (s .pre .0) (s .pre .1 .0) (x s) (at s R.assignAt-name (kind s) .0) .0 in
     let e = c .before .link3 .ensures in (
       omega arith,
       (
@@ -138,11 +138,11 @@ same-length c = search needs
 
 returns : tie.Need-returns
 returns c =
-    let s = c .before .before .before .before .before .before .before .before .before .before .before .before .before .before .before .before .before .before .before .before .before .before in
+    let s = c .before .before .before .before .before .before .before .before .before .before .before .before .before .before .before .before .before .before .before .before in
     let y = exp-laid (ρ s) (ns s) (c .before .before .before .before .before .before .before .before .before .before .before .before .before .before .before .before .link .result) (word (ns s) (i s) 2) (c .before .before .before .before .before .before .before .before .before .before .before .before .before .before .before .before .link .ensures) (c .before .before .before .before .before .before .before .before .before .before .before .before .before .before .before .before .before .before .lowest .result) (registersOf (c .before .before .before .before .before .before .before .before .before .before .before .before .before .before .before .before .before .cleared .result)) (c .before .before .before .before .before .before .before .before .before .before .before .before .before .before .emit-exp .ensures) in
     let z = exp-laid (ρ s) (ns s) (c .before .before .before .before .before .before .before .before .before .link2 .result) (word (ns s) (i s) 3) (c .before .before .before .before .before .before .before .before .before .link2 .ensures) (c .before .before .before .before .before .before .before .before .before .before .before .lowest2 .result) (registersOf (c .before .before .before .before .before .before .before .before .before .before .cleared2 .result)) (c .before .before .before .before .before .before .before .emit-exp2 .ensures) in
     let n = at s R.assignAt-name (kind s) in
-    let cell : getD (bs s) (c .before .before .before .before .link3 .result) 0 ≡ base (ρ s (x s)) = ap (λ (m : ℕ). getD (bs s) m 0) (c .before .before .before .before .link3 .ensures) ∙ based-at (ds s) (bs s) (s .pre .1 .0) (x s) (n .0) .1 ∙ sym (base-array (ds s) (x s) (n .1)) in
+    let cell : getD (bs s) (c .before .before .before .before .link3 .result) 0 ≡ base (ρ s (x s)) = ap (λ (m : ℕ). getD (bs s) m 0) (c .before .before .before .before .link3 .ensures) ∙ based-at (ds s) (ns s) (bs s) (s .pre .0) (s .pre .1 .0) (x s) (n .0) .1 ∙ sym (base-array (ds s) (x s) (n .1)) in
     let u = emitted-as (c .before .before .emit-store .ensures) (ap (λ (a : ℕ). storeCode a (c .before .before .before .before .before .before .before .before .before .before .before .before .before .before .before .before .before .before .lowest .result) (c .before .before .before .before .before .before .before .before .before .before .before .lowest2 .result) (registersOf (c .before .before .before .before .before .before .before .before .before .before .cleared2 .result))) cell) in
     done s (at s R.assignAt-read (kind s)) (assignAt-emitted (ρ s) (F s) (p s) (c .before .before .before .before .before .before .before .before .before .before .before .before .before .before .before .before .before .before .lowest .ensures) (c .before .before .before .before .before .before .before .before .before .before .before .before .before .before .before .before .before .cleared .ensures) (op s 2) y (x s) (op s 3) (c .before .before .before .before .before .before .before .before .before .before .before .lowest2 .ensures) (c .before .before .before .before .before .before .before .before .before .before .cleared2 .ensures) z u)
 

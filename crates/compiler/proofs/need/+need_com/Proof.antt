@@ -22,15 +22,15 @@ use Rattle.compiler.proofs.node.word.Reads as word-reads
 use Rattle.compiler.proofs.need.+need_com.{statement}
 use Rattle.compiler.proofs.need.+need_com.Tie.{close}
 
-abbrev μ : Measures 2 need-com-kinds.ps ℕ
+abbrev μ : Measures 4 need-com-kinds.ps ℕ
 μ κs a = a .1 .1 .0
 
 module _ (t : ℕ) where
-  abbrev pre : In 2 need-com-kinds.ps
-  pre = and 2 need-com-kinds.ps (is 2 need-com-kinds.ps μ t) need-com.Pre
+  abbrev pre : In 4 need-com-kinds.ps
+  pre = and 4 need-com-kinds.ps (is 4 need-com-kinds.ps μ t) need-com.Pre
 
-  abbrev pre< : In 2 need-com-kinds.ps
-  pre< = and 2 need-com-kinds.ps (falls 2 need-com-kinds.ps _<_ μ t) need-com.Pre
+  abbrev pre< : In 4 need-com-kinds.ps
+  pre< = and 4 need-com-kinds.ps (falls 4 need-com-kinds.ps _<_ μ t) need-com.Pre
 
   abbrev us : need-com-lts.Claims
   us = (word-reads.Asked, word-reads.Learnt, link-reads.Asked, link-reads.Learnt, need-exp-reads.Asked, need-exp-reads.Learnt, larger-reads.Asked, larger-reads.Learnt, pre<, need-com.Post)
@@ -38,13 +38,13 @@ module _ (t : ℕ) where
   -- what is known of the row, once its kind is read
   module _ (c : need-com-lts.After-word us pre need-com.Post) where
     abbrev s : need-com-lts.Start us pre need-com.Post
-    s = c .before .before .before
+    s = c .before
 
     abbrev ds : List ℕ
-    ds = now (s .args .declarations)
+    ds = now (now (s .args .declarations))
 
     abbrev ns : List ℕ
-    ns = now (s .args .nodes)
+    ns = now (now (s .args .nodes))
 
     abbrev i : ℕ
     i = s .args .row
@@ -55,15 +55,15 @@ module _ (t : ℕ) where
     -- a law of the row's reading, at this row
     at : {A : (ds ns : List ℕ) → Rows ds ns → (i : ℕ) → ComRow ns i → (k : ℕ) → k ≡ word ns i 0 → Type 0}
         → ((ds ns : List ℕ) (all : Rows ds ns) (i : ℕ) (row : ComRow ns i) (k : ℕ) (is : k ≡ word ns i 0) → A ds ns all i row k is)
-        → A ds ns (s .pre .1 .0) i (s .pre .1 .1 .0) (c .word .result) (c .word .ensures)
-    at f = f ds ns (s .pre .1 .0) i (s .pre .1 .1 .0) (c .word .result) (c .word .ensures)
+        → A ds ns (s .pre .1 .0) i (s .pre .1 .1) (c .word .result) (c .word .ensures)
+    at f = f ds ns (s .pre .1 .0) i (s .pre .1 .1) (c .word .result) (c .word .ensures)
 
     -- a call on the row m that word j names, and what it gives
-    askExp : (j m : ℕ) → m ≡ word ns i j → SubExp ns i j → Rows ds ns × (ExpRow ns m × (m < 65536))
-    askExp j m e x = let lt = x .below in (s .pre .1 .0, (subst (ExpRow ns) (sym e) (x .row), omega arith))
+    askExp : (j m : ℕ) → m ≡ word ns i j → SubExp ns i j → Rows ds ns × ExpRow ns m
+    askExp j m e x = (s .pre .1 .0, subst (ExpRow ns) (sym e) (x .row))
 
-    askCom : (j m : ℕ) → m ≡ word ns i j → SubCom ns i j → (m < t) × (Rows ds ns × (ComRow ns m × (m < 65536)))
-    askCom j m e x = let lt = x .below in (omega arith, (s .pre .1 .0, (subst (ComRow ns) (sym e) (x .row), omega arith)))
+    askCom : (j m : ℕ) → m ≡ word ns i j → SubCom ns i j → (m < t) × (Rows ds ns × ComRow ns m)
+    askCom j m e x = let lt = x .below in (omega arith, (s .pre .1 .0, subst (ComRow ns) (sym e) (x .row)))
 
     gotExp : (j m r : ℕ) → m ≡ word ns i j → SubExp ns i j → (r ≡ needExp ρ (expAt ns m)) × (r ≤ m * 2 + 2) → (r ≡ needExp ρ (expAt ns (word ns i j))) × (r ≤ i * 2)
     gotExp j m r e x g = let lt = x .below in let b = g .1 in (g .0 ∙ ap (λ (n : ℕ). needExp ρ (expAt ns n)) e, omega arith)

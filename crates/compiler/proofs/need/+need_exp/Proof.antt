@@ -23,15 +23,15 @@ use Rattle.compiler.proofs.node.word.Reads as word-reads
 use Rattle.compiler.proofs.need.+need_exp.{statement}
 use Rattle.compiler.proofs.need.+need_exp.Tie.{close}
 
-abbrev μ : Measures 2 need-exp-kinds.ps ℕ
+abbrev μ : Measures 4 need-exp-kinds.ps ℕ
 μ κs a = a .1 .1 .0
 
 module _ (t : ℕ) where
-  abbrev pre : In 2 need-exp-kinds.ps
-  pre = and 2 need-exp-kinds.ps (is 2 need-exp-kinds.ps μ t) need-exp.Pre
+  abbrev pre : In 4 need-exp-kinds.ps
+  pre = and 4 need-exp-kinds.ps (is 4 need-exp-kinds.ps μ t) need-exp.Pre
 
-  abbrev pre< : In 2 need-exp-kinds.ps
-  pre< = and 2 need-exp-kinds.ps (falls 2 need-exp-kinds.ps _<_ μ t) need-exp.Pre
+  abbrev pre< : In 4 need-exp-kinds.ps
+  pre< = and 4 need-exp-kinds.ps (falls 4 need-exp-kinds.ps _<_ μ t) need-exp.Pre
 
   abbrev us : need-exp-lts.Claims
   us = (word-reads.Asked, word-reads.Learnt, link-reads.Asked, link-reads.Learnt, need-name-reads.Asked, need-name-reads.Learnt, pre<, need-exp.Post, larger-reads.Asked, larger-reads.Learnt)
@@ -39,13 +39,13 @@ module _ (t : ℕ) where
   -- what is known of the row, once its kind is read
   module _ (c : need-exp-lts.After-word us pre need-exp.Post) where
     abbrev s : need-exp-lts.Start us pre need-exp.Post
-    s = c .before .before .before
+    s = c .before
 
     abbrev ds : List ℕ
-    ds = now (s .args .declarations)
+    ds = now (now (s .args .declarations))
 
     abbrev ns : List ℕ
-    ns = now (s .args .nodes)
+    ns = now (now (s .args .nodes))
 
     abbrev i : ℕ
     i = s .args .row
@@ -56,12 +56,12 @@ module _ (t : ℕ) where
     -- a law of the row's reading, at this row
     at : {A : (ds ns : List ℕ) → Rows ds ns → (i : ℕ) → ExpRow ns i → (k : ℕ) → k ≡ word ns i 0 → Type 0}
         → ((ds ns : List ℕ) (all : Rows ds ns) (i : ℕ) (row : ExpRow ns i) (k : ℕ) (is : k ≡ word ns i 0) → A ds ns all i row k is)
-        → A ds ns (s .pre .1 .0) i (s .pre .1 .1 .0) (c .word .result) (c .word .ensures)
-    at f = f ds ns (s .pre .1 .0) i (s .pre .1 .1 .0) (c .word .result) (c .word .ensures)
+        → A ds ns (s .pre .1 .0) i (s .pre .1 .1) (c .word .result) (c .word .ensures)
+    at f = f ds ns (s .pre .1 .0) i (s .pre .1 .1) (c .word .result) (c .word .ensures)
 
     -- a call on the row m that word j names, and what it gives
-    ask : (j m : ℕ) → m ≡ word ns i j → SubExp ns i j → (m < t) × (Rows ds ns × (ExpRow ns m × (m < 65536)))
-    ask j m e x = let lt = x .below in (omega arith, (s .pre .1 .0, (subst (ExpRow ns) (sym e) (x .row), omega arith)))
+    ask : (j m : ℕ) → m ≡ word ns i j → SubExp ns i j → (m < t) × (Rows ds ns × ExpRow ns m)
+    ask j m e x = let lt = x .below in (omega arith, (s .pre .1 .0, subst (ExpRow ns) (sym e) (x .row)))
 
     got : (j m r : ℕ) → m ≡ word ns i j → r ≡ needExp ρ (expAt ns m) → r ≡ needExp ρ (expAt ns (word ns i j))
     got j m r e g = g ∙ ap (λ (n : ℕ). needExp ρ (expAt ns n)) e

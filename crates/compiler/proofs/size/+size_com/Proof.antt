@@ -21,15 +21,15 @@ use Rattle.compiler.proofs.size.size_exp.Reads as size-exp-reads
 use Rattle.compiler.proofs.size.+size_com.{statement}
 use Rattle.compiler.proofs.size.+size_com.Tie.{close}
 
-abbrev μ : Measures 2 size-com-kinds.ps ℕ
+abbrev μ : Measures 4 size-com-kinds.ps ℕ
 μ κs a = a .1 .1 .0
 
 module _ (t : ℕ) where
-  abbrev pre : In 2 size-com-kinds.ps
-  pre = and 2 size-com-kinds.ps (is 2 size-com-kinds.ps μ t) size-com.Pre
+  abbrev pre : In 4 size-com-kinds.ps
+  pre = and 4 size-com-kinds.ps (is 4 size-com-kinds.ps μ t) size-com.Pre
 
-  abbrev pre< : In 2 size-com-kinds.ps
-  pre< = and 2 size-com-kinds.ps (falls 2 size-com-kinds.ps _<_ μ t) size-com.Pre
+  abbrev pre< : In 4 size-com-kinds.ps
+  pre< = and 4 size-com-kinds.ps (falls 4 size-com-kinds.ps _<_ μ t) size-com.Pre
 
   abbrev us : size-com-lts.Claims
   us = (word-reads.Asked, word-reads.Learnt, link-reads.Asked, link-reads.Learnt, size-exp-reads.Asked, size-exp-reads.Learnt, pre<, size-com.Post)
@@ -37,13 +37,13 @@ module _ (t : ℕ) where
   -- what is known of the row, once its kind is read
   module _ (c : size-com-lts.After-word us pre size-com.Post) where
     abbrev s : size-com-lts.Start us pre size-com.Post
-    s = c .before .before .before
+    s = c .before
 
     abbrev ds : List ℕ
-    ds = now (s .args .declarations)
+    ds = now (now (s .args .declarations))
 
     abbrev ns : List ℕ
-    ns = now (s .args .nodes)
+    ns = now (now (s .args .nodes))
 
     abbrev i : ℕ
     i = s .args .row

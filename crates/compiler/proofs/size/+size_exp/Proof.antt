@@ -22,15 +22,15 @@ use Rattle.compiler.proofs.size.size_op.Reads as size-op-reads
 use Rattle.compiler.proofs.size.+size_exp.{statement}
 use Rattle.compiler.proofs.size.+size_exp.Tie.{close}
 
-abbrev μ : Measures 2 size-exp-kinds.ps ℕ
+abbrev μ : Measures 4 size-exp-kinds.ps ℕ
 μ κs a = a .1 .1 .0
 
 module _ (t : ℕ) where
-  abbrev pre : In 2 size-exp-kinds.ps
-  pre = and 2 size-exp-kinds.ps (is 2 size-exp-kinds.ps μ t) size-exp.Pre
+  abbrev pre : In 4 size-exp-kinds.ps
+  pre = and 4 size-exp-kinds.ps (is 4 size-exp-kinds.ps μ t) size-exp.Pre
 
-  abbrev pre< : In 2 size-exp-kinds.ps
-  pre< = and 2 size-exp-kinds.ps (falls 2 size-exp-kinds.ps _<_ μ t) size-exp.Pre
+  abbrev pre< : In 4 size-exp-kinds.ps
+  pre< = and 4 size-exp-kinds.ps (falls 4 size-exp-kinds.ps _<_ μ t) size-exp.Pre
 
   abbrev us : size-exp-lts.Claims
   us = (word-reads.Asked, word-reads.Learnt, link-reads.Asked, link-reads.Learnt, size-name-reads.Asked, size-name-reads.Learnt, pre<, size-exp.Post, size-op-reads.Asked, size-op-reads.Learnt)
@@ -38,13 +38,13 @@ module _ (t : ℕ) where
   -- what is known of the row, once its kind is read
   module _ (c : size-exp-lts.After-word us pre size-exp.Post) where
     abbrev s : size-exp-lts.Start us pre size-exp.Post
-    s = c .before .before .before
+    s = c .before
 
     abbrev ds : List ℕ
-    ds = now (s .args .declarations)
+    ds = now (now (s .args .declarations))
 
     abbrev ns : List ℕ
-    ns = now (s .args .nodes)
+    ns = now (now (s .args .nodes))
 
     abbrev i : ℕ
     i = s .args .row
