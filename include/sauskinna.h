@@ -55,20 +55,20 @@ extern "C" {
 
 /*
  * Bytes of stack, from the caller's frame on, that are enough whatever is
- * handed in. As measured on x86-64, compile takes 2,719 for a rule of two rows
+ * handed in. As measured on x86-64, compile takes 2,519 for a rule of two rows
  * and for each level of nesting
  *
  *                                          need   size   code
- *   sequence, if, while                      96     96    304
- *   binary, not, element                     64     64    192
+ *   sequence, if, while                      64     80    224
+ *   binary, not, element                     48     64    160
  *
  * in the three passes that work out the registers needed and the instructions
  * and then emit them, one after the other. The deepest rule (480 commands
- * within each other around 62 nots) takes 160,543. Step and run take 231. The
+ * within each other around 62 nots) takes 119,959. Step and run take 231. The
  * rest is a reserve. What the system keeps on a thread's stack (3 to 5 KB with
  * glibc) comes on top, and so do handlers of signals that run on it.
  */
-#define SAUSKINNA_STACK 163840  /* any call */
+#define SAUSKINNA_STACK 122880  /* any call */
 #define SAUSKINNA_STACK_RUN 512 /* step and run */
 
 /* Declarations: (kind, value). Cells are given out from address 0 in row order. */

@@ -115,7 +115,7 @@ static size_t taken_by(const struct rule *r, enum pass pass)
 
 /* ---- Bytes a level, which are at most those that the header's comment has ---- */
 
-static const size_t command_level[PASSES] = {96, 96, 304}, expression_level[PASSES] = {64, 64, 192};
+static const size_t command_level[PASSES] = {64, 80, 224}, expression_level[PASSES] = {48, 64, 160};
 
 enum { FEW = 5, MORE = 25 };
 

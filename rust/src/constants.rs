@@ -19,7 +19,7 @@ pub const CODE_WORDS: usize = 262_144;
 pub const REGISTERS: usize = 64;
 
 /// Bytes of stack that any call may take.
-pub const STACK: usize = 163_840;
+pub const STACK: usize = 122_880;
 
 /// Bytes of stack that a run or a step may take.
 pub const STACK_RUN: usize = 512;
