@@ -17,6 +17,7 @@ const struct side sides[SIDES] = {
     [PLAIN_C] = {"plain C", plain_compile, plain_run, plain_step},
     [C_SWITCH] = {"C switch", NULL, switch_run, NULL},
     [C_GOTO] = {"C goto", NULL, goto_run, NULL},
+    [C_THREADED] = {"C threaded", NULL, threaded_run, NULL},
 #ifdef WITH_RUST
     [PLAIN_RUST] = {"plain Rust", plain_rust_compile, plain_rust_run, plain_rust_step},
 #endif

@@ -1,6 +1,11 @@
-/* goto.c: a run by computed goto, with one bound for place and budget. At -O2 gcc merges most copies of the jump into one. */
+/* goto.c: a run by computed goto, with one bound for place and budget. At -O2 gcc merges most copies of the jump into one; compiled so that
+   each operation keeps its own it is the side 'C threaded', RUN being threaded_run. */
 #include "plain.h"
 #include "sauskinna.h"
+
+#ifndef RUN
+#define RUN goto_run
+#endif
 
 /* Labels as values are GNU C. */
 #pragma GCC diagnostic ignored "-Wpedantic"
@@ -68,7 +73,7 @@ static inline uint64_t address_of(uint32_t base, uint32_t index)
         START_AT(label); \
     } while (0)
 
-uint32_t goto_run(const int32_t *restrict code, size_t code_words,
+uint32_t RUN(const int32_t *restrict code, size_t code_words,
                   int32_t *restrict memory, size_t cells, uint32_t *place,
                   int32_t registers[restrict 64], uint32_t budget, uint32_t answer[3])
 {

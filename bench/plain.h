@@ -1,5 +1,5 @@
-/* plain.h: the library's three functions in plain C (plain.c) and plain Rust (plain.rs), and run in two faster forms of C (switch.c,
-   goto.c); all with the same answers. */
+/* plain.h: the library's three functions in plain C (plain.c) and plain Rust (plain.rs), and run in faster forms of C (switch.c, and
+   goto.c compiled in two ways); all with the same answers. */
 #ifndef PLAIN_H
 #define PLAIN_H
 
@@ -26,6 +26,10 @@ uint32_t switch_run(const int32_t *code, size_t code_words,
 uint32_t goto_run(const int32_t *code, size_t code_words,
                   int32_t *memory, size_t cells, uint32_t *place,
                   int32_t registers[64], uint32_t budget, uint32_t answer[3]);
+
+uint32_t threaded_run(const int32_t *code, size_t code_words,
+                      int32_t *memory, size_t cells, uint32_t *place,
+                      int32_t registers[64], uint32_t budget, uint32_t answer[3]);
 
 uint32_t plain_rust_compile(const int32_t *declarations, size_t declaration_words,
                             const int32_t *nodes, size_t node_words,

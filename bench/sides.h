@@ -22,6 +22,7 @@ enum {
     PLAIN_C,
     C_SWITCH,
     C_GOTO,
+    C_THREADED,
 #ifdef WITH_RUST
     PLAIN_RUST,
 #endif
