@@ -34,6 +34,15 @@ fine-words w c = go (eqb (w % 4) 0) (leb w 262144) refl (leb c 65536)
     go true false e t h = let z : _≡_ {A = ℕ} 0 1 = cc in absurd (omega arith)
     go false s e t h = let z : _≡_ {A = ℕ} 0 1 = cc in absurd (omega arith)
 
+pub fine-cells : (w c : ℕ) → sizesOf w c ≡ Fine → c ≤ 65536
+unfolding sizesOf
+fine-cells w c = go (eqb (w % 4) 0 && leb w 262144) (leb c 65536) refl
+  where
+    go : (r s : Bool) → leb c 65536 ≡ s → cond r (cond s Fine MemoryCells) CodeWords ≡ Fine → c ≤ 65536
+    go true true e h = leb-true c 65536 e
+    go true false e h = let z : _≡_ {A = ℕ} 0 1 = cc in absurd (omega arith)
+    go false s e h = let z : _≡_ {A = ℕ} 0 1 = cc in absurd (omega arith)
+
 followed : (code : List ℕ) (k p : ℕ) → ((q : ℕ) (g m : List ℕ) → runOf code k q g m .left ≤ k) → (x : Next) (g m : List ℕ)
     → follow (runOf code k) k p x g m .left ≤ suc k
 followed code k p ih (Go q) g m = let h = ih q g m in omega arith

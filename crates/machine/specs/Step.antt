@@ -10,6 +10,8 @@ use Rattle.word.specs.declared.Cell.the-variants.{At, Nowhere}
 use Rattle.instruction.specs.Instruction.{Instruction, ins, Fetched, outside, unknown, found, fetch, countOf}
 use Rattle.machine.specs.declared.Next.{Next}
 use Rattle.machine.specs.declared.Next.the-variants.{Go, Halt, Fault}
+use Rattle.machine.specs.declared.Move.{Move}
+use Rattle.machine.specs.declared.Move.the-variants as Move
 
 -- "A step gives the next state, a halt, or a fault": where it leads, with the registers and the memory that it leaves
 pub record Did : Type 0 where
@@ -19,6 +21,13 @@ pub record Did : Type 0 where
 
 abbrev pub did : Next → List ℕ → List ℕ → Did
 did x g m = record { next = x; registers = g; memory = m }
+
+-- where a move from place p leads
+abbrev pub moved : ℕ → Move → Next
+moved p Move.On = Go (suc p)
+moved p (Move.To q) = Go q
+moved p Move.Halt = Halt
+moved p (Move.Fault f) = Fault f
 
 -- "$0 reads as 0 whatever is stored in its place"
 unfoldable pub readOf : List ℕ → ℕ → ℕ

@@ -2,9 +2,10 @@
 mod operation;
 
 ghost use mathlib.Core.Path.{_≡_};
-ghost use Prim.Native.Nat.{_≤_};
+ghost use Prim.Native.Nat.{_≤_, _<_};
 ghost use lib.ListN.{length, getD};
-ghost use Rattle.machine.specs.Step.{did, stepOf};
+ghost use Rattle.machine.specs.Step.{moved, did, stepOf};
+ghost use Rattle.instruction.specs.Instruction.{countOf};
 ghost use Rattle.machine.specs.Run.{ran, runOf};
 ghost use Rattle.machine.specs.Entry.{shown, stateOf, sizesOf, runSaid, stepSaid, runEntry, stepEntry};
 
@@ -17,6 +18,14 @@ pub struct State {
 // What one instruction leads to.
 pub enum Next {
     Go(usize),
+    Halt,
+    Fault(u32),
+}
+
+// What one instruction leads to, from its place: on to the next one, or to another.
+pub enum Move {
+    On,
+    To(usize),
     Halt,
     Fault(u32),
 }
@@ -70,55 +79,72 @@ pub struct Stepped {
     pub state: State,
 }
 
-// One step from a place.
-fn advance(code: &[u32], place: usize, g: &mut [u32; 64], m: &mut [u32]) -> Next
-    requires { ⌜ (length (now code) ≤ 262144) × (getD (now g) 0 0 ≡ 0) ⌝ }
-    ensures { λ r. ⌜ did r (now (g .exit)) (now (m .exit)) ≡ stepOf (now (code .entry)) place (now (g .entry)) (now (m .entry)) ⌝ }
+// One step from a place of the code.
+fn advance(code: &[u32], place: usize, g: &mut [u32; 64], m: &mut [u32]) -> Move
+    requires { ⌜ (length (now code) ≤ 262144) × (getD (now g) 0 0 ≡ 0) × (length (now m) ≤ 65536) × (place < countOf (now code)) ⌝ }
+    ensures { λ r. ⌜ did (moved place r) (now (g .exit)) (now (m .exit)) ≡ stepOf (now (code .entry)) place (now (g .entry)) (now (m .entry)) ⌝ }
 {
-    let count = code.len() / 4;
-    if count <= place {
-        return Next::Fault(1);
-    }
     let at = place * 4;
     let op = code[at];
     let a = code[at + 1];
     let b = code[at + 2];
     let c = code[at + 3];
     if instruction::formed(op, a, b, c) {
-        return operation::perform(count, place, g, m, op, a, b, c);
+        return operation::perform(code.len() / 4, place, g, m, op, a, b, c);
     }
-    Next::Fault(2)
+    Move::Fault(2)
+}
+
+// The smaller of two numbers.
+fn smaller(a: usize, b: usize) -> usize
+    ensures { λ r. ⌜ (r ≤ a) × (r ≤ b) × (r < b → a ≤ r) ⌝ }
+{
+    if a < b { a } else { b }
 }
 
 // A run from a place under a budget: the one caller of `advance`, so that the step is part of the loop.
+// The budget that is left is limit - place, so that going on to the next place changes the place alone. A stretch of the code stops at its limit or at the code's end.
 fn proceed(code: &[u32], from: usize, g: &mut [u32; 64], m: &mut [u32], budget: u32) -> Ended
-    requires { ⌜ (length (now code) ≤ 262144) × (getD (now g) 0 0 ≡ 0) ⌝ }
+    requires { ⌜ (length (now code) ≤ 262144) × (getD (now g) 0 0 ≡ 0) × (length (now m) ≤ 65536) × (from < 4294967296) ⌝ }
     ensures { λ r. ⌜ ran (r .ending) (r .left) (r .place) (now (g .exit)) (now (m .exit)) ≡ runOf (now (code .entry)) budget from (now (g .entry)) (now (m .entry)) ⌝ }
 {
+    let count = code.len() / 4;
     let mut place = from;
-    let mut left = budget;
-    while 0 < left {
+    let mut limit = from + budget as usize;
+    let mut stop = smaller(count, limit);
+    while place < stop {
         let next = advance(code, place, g, m);
         match next {
-            Next::Go(p) => {
-                place = p;
-                left = left - 1;
+            Move::On => {
+                place = place + 1;
             }
-            Next::Halt => {
+            Move::To(p) => {
+                limit = p + (limit - place - 1);
+                place = p;
+                stop = smaller(count, limit);
+            }
+            Move::Halt => {
                 return Ended {
                     ending: Ending::Halted,
-                    left: left - 1,
+                    left: (limit - place - 1) as u32,
                     place: place,
                 };
             }
-            Next::Fault(f) => {
+            Move::Fault(f) => {
                 return Ended {
                     ending: Ending::Faulted(f),
-                    left: left,
+                    left: (limit - place) as u32,
                     place: place,
                 };
             }
         }
+    }
+    if place < limit {
+        return Ended {
+            ending: Ending::Faulted(1),
+            left: (limit - place) as u32,
+            place: place,
+        };
     }
     Ended {
         ending: Ending::Unfinished,

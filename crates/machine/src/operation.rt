@@ -1,5 +1,5 @@
 // One instruction, done on the registers and the memory where they lie.
-use crate::Next;
+use crate::Move;
 use instruction::ADD;
 use instruction::ADDI;
 use instruction::BEQ;
@@ -12,14 +12,16 @@ use instruction::NOP;
 use instruction::SLT;
 use instruction::STORE;
 use instruction::SUB;
+use word::Cell;
 ghost use mathlib.Core.Path.{_≡_};
 ghost use mathlib.Core.Bool.{true, cond, not};
-ghost use Prim.Native.Nat.{suc, _<_};
+ghost use Prim.Native.Nat.{suc, _<_, _≤_};
 ghost use lib.Dec.{eqb};
-ghost use lib.ListN.{getD};
-ghost use Rattle.word.specs.Word.{sumOf, differenceOf, productOf, lessOf};
+ghost use lib.ListN.{length, getD};
+ghost use Rattle.word.specs.Word.{sumOf, differenceOf, productOf, lessOf, addressOf, cellOf};
 ghost use Rattle.instruction.specs.Instruction.{ins, formed};
-ghost use Rattle.machine.specs.Step.{did, readOf, wroteNext, wroteRegisters, cellAt, loads, stores, jumpsTo, branches, flagOf, perform as performOf};
+ghost use Rattle.machine.specs.declared.Next.the-variants.{Fault};
+ghost use Rattle.machine.specs.Step.{moved, did, readOf, wroteNext, wroteRegisters, cellAt, loads, stores, jumpsTo, branches, flagOf, perform as performOf};
 
 // What register r reads as, where place 0 is cleared.
 fn read(g: &[u32; 64], r: u32) -> u32
@@ -30,39 +32,39 @@ fn read(g: &[u32; 64], r: u32) -> u32
 }
 
 // Writes v to register a, and goes on.
-fn write(g: &mut [u32; 64], place: usize, a: u32, v: u32) -> Next
+fn write(g: &mut [u32; 64], place: usize, a: u32, v: u32) -> Move
     requires { ⌜ (a < 64) × (place < 65536) ⌝ }
-    ensures { λ r. ⌜ (r ≡ wroteNext place a) × (now (g .exit) ≡ wroteRegisters a v (now (g .entry))) ⌝ }
+    ensures { λ r. ⌜ (moved place r ≡ wroteNext place a) × (now (g .exit) ≡ wroteRegisters a v (now (g .entry))) ⌝ }
 {
     if a == 0 {
-        return Next::Fault(3);
+        return Move::Fault(3);
     }
     let i = a as usize;
     g[i] = v;
-    Next::Go(place + 1)
+    Move::On
 }
 
 // A jump that is taken, in a code of count instructions.
-fn jump(count: usize, l: u32) -> Next
-    ensures { λ r. ⌜ r ≡ jumpsTo count l ⌝ }
+fn jump(count: usize, place: usize, l: u32) -> Move
+    ensures { λ r. ⌜ moved place r ≡ jumpsTo count l ⌝ }
 {
     let to = l as usize;
     if to < count {
-        Next::Go(to)
+        Move::To(to)
     } else {
-        Next::Fault(5)
+        Move::Fault(5)
     }
 }
 
 // A branch: a jump where it is taken.
-fn branch(taken: bool, count: usize, place: usize, l: u32) -> Next
+fn branch(taken: bool, count: usize, place: usize, l: u32) -> Move
     requires { ⌜ place < 65536 ⌝ }
-    ensures { λ r. ⌜ r ≡ branches taken count place l ⌝ }
+    ensures { λ r. ⌜ moved place r ≡ branches taken count place l ⌝ }
 {
     if taken {
-        return jump(count, l);
+        return jump(count, place, l);
     }
-    Next::Go(place + 1)
+    Move::On
 }
 
 // 1 for true, 0 for false.
@@ -72,44 +74,44 @@ fn flag(t: bool) -> u32
     if t { 1 } else { 0 }
 }
 
-fn add(g: &mut [u32; 64], place: usize, a: u32, b: u32, c: u32) -> Next
+fn add(g: &mut [u32; 64], place: usize, a: u32, b: u32, c: u32) -> Move
     requires { ⌜ (a < 64) × (b < 64) × (c < 64) × (place < 65536) × (getD (now g) 0 0 ≡ 0) ⌝ }
-    ensures { λ r. ⌜ (r ≡ wroteNext place a) × (now (g .exit) ≡ wroteRegisters a (sumOf (readOf (now (g .entry)) b) (readOf (now (g .entry)) c)) (now (g .entry))) ⌝ }
+    ensures { λ r. ⌜ (moved place r ≡ wroteNext place a) × (now (g .exit) ≡ wroteRegisters a (sumOf (readOf (now (g .entry)) b) (readOf (now (g .entry)) c)) (now (g .entry))) ⌝ }
 {
     let x = read(g, b);
     let y = read(g, c);
     write(g, place, a, word::sum(x, y))
 }
 
-fn addi(g: &mut [u32; 64], place: usize, a: u32, n: u32, c: u32) -> Next
+fn addi(g: &mut [u32; 64], place: usize, a: u32, n: u32, c: u32) -> Move
     requires { ⌜ (a < 64) × (c < 64) × (place < 65536) × (getD (now g) 0 0 ≡ 0) ⌝ }
-    ensures { λ r. ⌜ (r ≡ wroteNext place a) × (now (g .exit) ≡ wroteRegisters a (sumOf n (readOf (now (g .entry)) c)) (now (g .entry))) ⌝ }
+    ensures { λ r. ⌜ (moved place r ≡ wroteNext place a) × (now (g .exit) ≡ wroteRegisters a (sumOf n (readOf (now (g .entry)) c)) (now (g .entry))) ⌝ }
 {
     let y = read(g, c);
     write(g, place, a, word::sum(n, y))
 }
 
-fn sub(g: &mut [u32; 64], place: usize, a: u32, b: u32, c: u32) -> Next
+fn sub(g: &mut [u32; 64], place: usize, a: u32, b: u32, c: u32) -> Move
     requires { ⌜ (a < 64) × (b < 64) × (c < 64) × (place < 65536) × (getD (now g) 0 0 ≡ 0) ⌝ }
-    ensures { λ r. ⌜ (r ≡ wroteNext place a) × (now (g .exit) ≡ wroteRegisters a (differenceOf (readOf (now (g .entry)) b) (readOf (now (g .entry)) c)) (now (g .entry))) ⌝ }
+    ensures { λ r. ⌜ (moved place r ≡ wroteNext place a) × (now (g .exit) ≡ wroteRegisters a (differenceOf (readOf (now (g .entry)) b) (readOf (now (g .entry)) c)) (now (g .entry))) ⌝ }
 {
     let x = read(g, b);
     let y = read(g, c);
     write(g, place, a, word::difference(x, y))
 }
 
-fn mul(g: &mut [u32; 64], place: usize, a: u32, b: u32, c: u32) -> Next
+fn mul(g: &mut [u32; 64], place: usize, a: u32, b: u32, c: u32) -> Move
     requires { ⌜ (a < 64) × (b < 64) × (c < 64) × (place < 65536) × (getD (now g) 0 0 ≡ 0) ⌝ }
-    ensures { λ r. ⌜ (r ≡ wroteNext place a) × (now (g .exit) ≡ wroteRegisters a (productOf (readOf (now (g .entry)) b) (readOf (now (g .entry)) c)) (now (g .entry))) ⌝ }
+    ensures { λ r. ⌜ (moved place r ≡ wroteNext place a) × (now (g .exit) ≡ wroteRegisters a (productOf (readOf (now (g .entry)) b) (readOf (now (g .entry)) c)) (now (g .entry))) ⌝ }
 {
     let x = read(g, b);
     let y = read(g, c);
     write(g, place, a, word::product(x, y))
 }
 
-fn slt(g: &mut [u32; 64], place: usize, a: u32, b: u32, c: u32) -> Next
+fn slt(g: &mut [u32; 64], place: usize, a: u32, b: u32, c: u32) -> Move
     requires { ⌜ (a < 64) × (b < 64) × (c < 64) × (place < 65536) × (getD (now g) 0 0 ≡ 0) ⌝ }
-    ensures { λ r. ⌜ (r ≡ wroteNext place a) × (now (g .exit) ≡ wroteRegisters a (flagOf (lessOf (readOf (now (g .entry)) b) (readOf (now (g .entry)) c))) (now (g .entry))) ⌝ }
+    ensures { λ r. ⌜ (moved place r ≡ wroteNext place a) × (now (g .exit) ≡ wroteRegisters a (flagOf (lessOf (readOf (now (g .entry)) b) (readOf (now (g .entry)) c))) (now (g .entry))) ⌝ }
 {
     let x = read(g, b);
     let y = read(g, c);
@@ -117,58 +119,76 @@ fn slt(g: &mut [u32; 64], place: usize, a: u32, b: u32, c: u32) -> Next
 }
 
 // A load whose address is outside memory: the write to $0 is checked first.
-fn missed(a: u32) -> Next
-    ensures { λ r. ⌜ r ≡ cond (eqb a 0) (Next.Fault 3) (Next.Fault 4) ⌝ }
+fn missed(place: usize, a: u32) -> Move
+    ensures { λ r. ⌜ moved place r ≡ cond (eqb a 0) (Fault 3) (Fault 4) ⌝ }
 {
     if a != 0 {
-        Next::Fault(4)
+        Move::Fault(4)
     } else {
-        Next::Fault(3)
+        Move::Fault(3)
     }
 }
 
-fn load(g: &mut [u32; 64], m: &[u32], place: usize, a: u32, b: u32, i: u32) -> Next
-    requires { ⌜ (a < 64) × (b < 64) × (i < 64) × (place < 65536) × (getD (now g) 0 0 ≡ 0) ⌝ }
-    ensures { λ r. ⌜ did r (now (g .exit)) (now (m .entry)) ≡ loads place a (cellAt (now (g .entry)) (now (m .entry)) b i) (now (g .entry)) (now (m .entry)) ⌝ }
+// The cell that base plus index names, in a memory of size cells: a wrapped sum that is inside is the exact one, unless both are negative.
+fn cell_at(base: u32, index: u32, size: usize) -> Cell
+    requires { ⌜ size ≤ 65536 ⌝ }
+    ensures { λ r. ⌜ r ≡ cellOf (addressOf base index) size ⌝ }
+{
+    let at = std::num::wrapping_add_u32(base, index) as usize;
+    if size <= at {
+        return Cell::Nowhere;
+    }
+    if base < 2147483648 {
+        return Cell::At(at);
+    }
+    if index < 2147483648 {
+        return Cell::At(at);
+    }
+    Cell::Nowhere
+}
+
+fn load(g: &mut [u32; 64], m: &[u32], place: usize, a: u32, b: u32, i: u32) -> Move
+    requires { ⌜ (a < 64) × (b < 64) × (i < 64) × (place < 65536) × (getD (now g) 0 0 ≡ 0) × (length (now m) ≤ 65536) ⌝ }
+    ensures { λ r. ⌜ did (moved place r) (now (g .exit)) (now (m .entry)) ≡ loads place a (cellAt (now (g .entry)) (now (m .entry)) b i) (now (g .entry)) (now (m .entry)) ⌝ }
 {
     let x = read(g, b);
     let y = read(g, i);
-    let cell = word::cell_at(x, y, m.len());
+    let cell = cell_at(x, y, m.len());
     match cell {
-        word::Cell::At(k) => write(g, place, a, m[k]),
-        word::Cell::Nowhere => missed(a),
+        Cell::At(k) => write(g, place, a, m[k]),
+        Cell::Nowhere => missed(place, a),
     }
 }
 
-fn store(g: &[u32; 64], m: &mut [u32], place: usize, b: u32, i: u32, a: u32) -> Next
-    requires { ⌜ (a < 64) × (b < 64) × (i < 64) × (place < 65536) × (getD (now g) 0 0 ≡ 0) ⌝ }
-    ensures { λ r. ⌜ did r (now (g .entry)) (now (m .exit)) ≡ stores place (readOf (now (g .entry)) a) (cellAt (now (g .entry)) (now (m .entry)) b i) (now (g .entry)) (now (m .entry)) ⌝ }
+fn store(g: &[u32; 64], m: &mut [u32], place: usize, b: u32, i: u32, a: u32) -> Move
+    requires { ⌜ (a < 64) × (b < 64) × (i < 64) × (place < 65536) × (getD (now g) 0 0 ≡ 0) × (length (now m) ≤ 65536) ⌝ }
+    ensures { λ r. ⌜ did (moved place r) (now (g .entry)) (now (m .exit)) ≡ stores place (readOf (now (g .entry)) a) (cellAt (now (g .entry)) (now (m .entry)) b i) (now (g .entry)) (now (m .entry)) ⌝ }
 {
     let x = read(g, b);
     let y = read(g, i);
     let v = read(g, a);
-    let cell = word::cell_at(x, y, m.len());
+    let cell = cell_at(x, y, m.len());
     match cell {
-        word::Cell::At(k) => {
+        Cell::At(k) => {
             m[k] = v;
-            Next::Go(place + 1)
+            Move::On
         }
-        word::Cell::Nowhere => Next::Fault(4),
+        Cell::Nowhere => Move::Fault(4),
     }
 }
 
-fn bne(g: &[u32; 64], count: usize, place: usize, a: u32, b: u32, l: u32) -> Next
+fn bne(g: &[u32; 64], count: usize, place: usize, a: u32, b: u32, l: u32) -> Move
     requires { ⌜ (a < 64) × (b < 64) × (place < 65536) × (getD (now g) 0 0 ≡ 0) ⌝ }
-    ensures { λ r. ⌜ r ≡ branches (not (eqb (readOf (now (g .entry)) a) (readOf (now (g .entry)) b))) count place l ⌝ }
+    ensures { λ r. ⌜ moved place r ≡ branches (not (eqb (readOf (now (g .entry)) a) (readOf (now (g .entry)) b))) count place l ⌝ }
 {
     let x = read(g, a);
     let y = read(g, b);
     branch(x != y, count, place, l)
 }
 
-fn beq(g: &[u32; 64], count: usize, place: usize, a: u32, b: u32, l: u32) -> Next
+fn beq(g: &[u32; 64], count: usize, place: usize, a: u32, b: u32, l: u32) -> Move
     requires { ⌜ (a < 64) × (b < 64) × (place < 65536) × (getD (now g) 0 0 ≡ 0) ⌝ }
-    ensures { λ r. ⌜ r ≡ branches (eqb (readOf (now (g .entry)) a) (readOf (now (g .entry)) b)) count place l ⌝ }
+    ensures { λ r. ⌜ moved place r ≡ branches (eqb (readOf (now (g .entry)) a) (readOf (now (g .entry)) b)) count place l ⌝ }
 {
     let x = read(g, a);
     let y = read(g, b);
@@ -185,23 +205,23 @@ pub(crate) fn perform(
     a: u32,
     b: u32,
     c: u32,
-) -> Next
-    requires { ⌜ (formed (ins op a b c) ≡ true) × (place < 65536) × (getD (now g) 0 0 ≡ 0) ⌝ }
-    ensures { λ r. ⌜ did r (now (g .exit)) (now (m .exit)) ≡ performOf count place (now (g .entry)) (now (m .entry)) (ins op a b c) ⌝ }
+) -> Move
+    requires { ⌜ (formed (ins op a b c) ≡ true) × (place < 65536) × (getD (now g) 0 0 ≡ 0) × (length (now m) ≤ 65536) ⌝ }
+    ensures { λ r. ⌜ did (moved place r) (now (g .exit)) (now (m .exit)) ≡ performOf count place (now (g .entry)) (now (m .entry)) (ins op a b c) ⌝ }
 {
     match op {
-        HALT => Next::Halt,
-        NOP => Next::Go(place + 1),
+        HALT => Move::Halt,
+        NOP => Move::On,
         ADD => add(g, place, a, b, c),
         ADDI => addi(g, place, a, b, c),
         SUB => sub(g, place, a, b, c),
         MUL => mul(g, place, a, b, c),
         LOAD => load(g, m, place, a, b, c),
         STORE => store(g, m, place, a, b, c),
-        JMP => jump(count, a),
+        JMP => jump(count, place, a),
         BNE => bne(g, count, place, a, b, c),
         BEQ => beq(g, count, place, a, b, c),
         SLT => slt(g, place, a, b, c),
-        _ => Next::Fault(2),
+        _ => Move::Fault(2),
     }
 }

@@ -107,6 +107,26 @@ module _ (a b size x y : ℕ) (ha : a < 4294967296) (hb : b < 4294967296) (hx : 
   unfolding cellOf
   cell-past h k = rw (tied, le-ltb (x + y) 4294967296 h, le-ltb (x + y - 4294967296) size k)
 
+-- where the memory has at most 2^31 cells, a wrapped sum that is inside is the exact address, unless both words are negative
+module _ (a b size s : ℕ) (ha : a < 4294967296) (hb : b < 4294967296) (few : size ≤ 2147483648) (hs : s ≡ (a + b) % 4294967296) where
+  pub near-past : size ≤ s → Nowhere ≡ cellOf (addressOf a b) size
+  near-past h = go (ltb (biased a + biased b) 4294967296) refl
+    where
+      go : (t : Bool) → ltb (biased a + biased b) 4294967296 ≡ t → Nowhere ≡ cellOf (addressOf a b) size
+      go true e = cell-below a b size (biased a) (biased b) ha hb refl refl (ltb-true _ _ e)
+      go false e =
+          let k = ltb-false (biased a + biased b) 4294967296 e in
+          cell-past a b size (biased a) (biased b) ha hb refl refl k (omega arith)
+
+  pub near-low : s < size → a < 2147483648 → At s ≡ cellOf (addressOf a b) size
+  near-low h l = ap At (omega arith) ∙ cell-in a b size (biased a) (biased b) ha hb refl refl (omega arith) (omega arith)
+
+  pub near-index : s < size → b < 2147483648 → At s ≡ cellOf (addressOf a b) size
+  near-index h l = ap At (omega arith) ∙ cell-in a b size (biased a) (biased b) ha hb refl refl (omega arith) (omega arith)
+
+  pub near-none : 2147483648 ≤ a → 2147483648 ≤ b → Nowhere ≡ cellOf (addressOf a b) size
+  near-none h l = cell-below a b size (biased a) (biased b) ha hb refl refl (omega arith)
+
 -- a cell that an address leads to is one of the memory's
 pub cell-within : (z : ℤ) (size : ℕ) {o : Cell} {k : ℕ} → o ≡ cellOf z size → o ≡ At k → k < size
 unfolding cellOf

@@ -1,7 +1,7 @@
 -- `run_in_place`: a refusal leaves all as it came; otherwise the run over a cleared place 0, put back after it, whose place and budget fit.
 -- Assumes nothing.
 use Rattle.machine.specs.Entry.{runEntry}
-use Rattle.machine.proofs.Entries.{fine-words, left-at, place-at}
+use Rattle.machine.proofs.Entries.{fine-words, fine-cells, left-at, place-at}
 use Rattle.machine.proofs.Cleared.{cleared, put-back}
 use mathlib.Core.Path.{_∙_, sym}
 use native.Mathlib.Omega.{arith}
@@ -28,7 +28,7 @@ element-write-registers : tie.Need-element-write-registers
 element-write-registers c = search needs
 
 proceed-requires : tie.Need-proceed-requires
-proceed-requires c κs = (fine-words _ _ (sym (c .before .before .before .before .before .before .check-sizes .ensures) ∙ c .before .before .before .before .enum-told3 .given .1), cleared (c .before .before .before .before .before .before .before .before .before .args .registers .now))
+proceed-requires c κs = (fine-words _ _ (sym (c .before .before .before .before .before .before .check-sizes .ensures) ∙ c .before .before .before .before .enum-told3 .given .1), cleared (c .before .before .before .before .before .before .before .before .before .args .registers .now), fine-cells _ _ (sym (c .before .before .before .before .before .before .check-sizes .ensures) ∙ c .before .before .before .before .enum-told3 .given .1), search needs)
 
 element-write-registers-2 : tie.Need-element-write-registers-2
 element-write-registers-2 c = search needs

@@ -2,16 +2,12 @@
 -- Assumes nothing.
 use lib.ListN.{List·getD-eq-default}
 use native.Mathlib.Omega.{arith}
-use native.Mathlib.Numerals.{add-one}
 use Rattle.instruction.proofs.Forms.{above, registers-below}
 use Rattle.instruction.specs.Instruction.{formed, operations}
 use Rattle.machine.specs.Step.{perform}
 use borrow.Author.Needs.{needs}
 use Rattle.machine.proofs.operation.perform.Statement.{statement}
 use Rattle.machine.proofs.operation.perform.Tie as tie
-
-add-t10 : tie.Need-add-t10
-add-t10 c = search needs
 
 add-requires : tie.Need-add-requires
 unfolding formed operations
@@ -31,11 +27,11 @@ mul-requires c κs = let h = registers-below (c .before .before .before .args .a
 
 load-requires : tie.Need-load-requires
 unfolding formed operations
-load-requires c κs = let h = registers-below (c .before .before .before .before .args .a) (c .before .before .before .before .args .b) (c .before .before .before .before .args .c) (rw (c .before .before .match .keys7) at (c .before .before .before .before .pre .0)) in (h .0, h .1, h .2, c .before .before .before .before .pre .1, c .before .before .before .before .pre .2)
+load-requires c κs = let h = registers-below (c .before .before .before .before .args .a) (c .before .before .before .before .args .b) (c .before .before .before .before .args .c) (rw (c .before .before .match .keys7) at (c .before .before .before .before .pre .0)) in (h .0, h .1, h .2, c .before .before .before .before .pre .1, c .before .before .before .before .pre .2, c .before .before .before .before .pre .3)
 
 store-requires : tie.Need-store-requires
 unfolding formed operations
-store-requires c κs = let h = registers-below (c .before .before .before .before .args .a) (c .before .before .before .before .args .b) (c .before .before .before .before .args .c) (rw (c .before .before .match .keys8) at (c .before .before .before .before .pre .0)) in (h .2, h .0, h .1, c .before .before .before .before .pre .1, c .before .before .before .before .pre .2)
+store-requires c κs = let h = registers-below (c .before .before .before .before .args .a) (c .before .before .before .before .args .b) (c .before .before .before .before .args .c) (rw (c .before .before .match .keys8) at (c .before .before .before .before .pre .0)) in (h .2, h .0, h .1, c .before .before .before .before .pre .1, c .before .before .before .before .pre .2, c .before .before .before .before .pre .3)
 
 jump-requires : tie.Need-jump-requires
 jump-requires c κs = search needs
@@ -58,7 +54,7 @@ returns c = rw (c .match .keys1)
 
 returns-2 : tie.Need-returns-2
 unfolding perform
-returns-2 c = rw (c .match .keys2, add-one)
+returns-2 c = rw (c .match .keys2)
 
 returns-3 : tie.Need-returns-3
 unfolding perform
@@ -114,7 +110,6 @@ pub perform-spec : {M : Type 1} → statement M
 perform-spec =
     tie.close
     (tie.spec
-    add-t10
     add-requires
     addi-requires
     sub-requires

@@ -1,6 +1,5 @@
 -- `store`: by the two cases of the cell.
 -- Assumes nothing.
-use native.Mathlib.Numerals.{add-one}
 use native.Mathlib.Omega.{arith}
 use Rattle.word.proofs.Biased.{cell-within}
 use borrow.Author.Needs.{needs}
@@ -28,9 +27,6 @@ mul-m c = omega (arith, cell-within _ _ (c .before .before .before .cell-at .ens
 slice-write-m : tie.Need-slice-write-m
 slice-write-m c = cell-within _ _ (c .before .before .before .cell-at .ensures) (c .before .cell .given .1)
 
-add-t14 : tie.Need-add-t14
-add-t14 c = search needs
-
 enum-told : tie.Need-enum-told
 enum-told c = search needs
 
@@ -38,7 +34,7 @@ same-length : tie.Need-same-length
 same-length c = search needs
 
 returns : tie.Need-returns
-returns c = rw (← c .before .before .before .before .before .before .read .ensures, ← c .before .before .before .before .before .read2 .ensures, ← c .before .before .before .before .read3 .ensures, ← c .before .before .before .cell-at .ensures, c .before .cell .given .1, add-one)
+returns c = rw (← c .before .before .before .before .before .before .read .ensures, ← c .before .before .before .before .before .read2 .ensures, ← c .before .before .before .before .read3 .ensures, ← c .before .before .before .cell-at .ensures, c .before .cell .given .1)
 
 returns-2 : tie.Need-returns-2
 returns-2 c = rw (← c .before .before .before .before .before .read .ensures, ← c .before .before .before .before .read2 .ensures, ← c .before .before .cell-at .ensures, c .enum-told .given .1)
@@ -54,7 +50,6 @@ store-spec =
     enum-known-cell
     mul-m
     slice-write-m
-    add-t14
     enum-told
     same-length
     returns
