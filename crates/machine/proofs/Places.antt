@@ -8,14 +8,11 @@ use native.Mathlib.Omega.{arith}
 use lib.Dec.{ltb, eqb}
 use lib.ListN.{getD}
 use borrow.Author.Tests.{ltb-true}
-use Rattle.word.specs.declared.Cell.{Cell}
-use Rattle.word.specs.declared.Cell.the-variants.{At, Nowhere}
+use Rattle.word.specs.Word.{Cell, At, Nowhere}
 use Rattle.instruction.specs.Instruction.{Instruction, ins, Fetched, outside, unknown, found, decode, fetch, countOf}
-use Rattle.machine.specs.declared.Next.{Next}
-use Rattle.machine.specs.declared.Next.the-variants.{Go, Halt, Fault}
 use Rattle.machine.specs.declared.Move.{Move}
 use Rattle.machine.specs.declared.Move.the-variants as Move
-use Rattle.machine.specs.Step.{Did, moved, did, loads, stores, jumpsTo, branches, rules, perform, tried, stepOf, cellAt, readOf}
+use Rattle.machine.specs.Step.{Next, Go, Halt, Fault, Did, moved, did, loads, stores, jumpsTo, branches, rules, perform, tried, stepOf, cellAt, readOf}
 use Rattle.machine.specs.Run.{follow, runOf}
 
 abbrev pub Within : ℕ → Next → Type 0

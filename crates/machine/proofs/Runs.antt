@@ -4,12 +4,10 @@ use mathlib.Core.Path.{_≡_, refl}
 use mathlib.Core.List.{List}
 use Prim.Native.Nat.{ℕ, zero, suc, _-_, _<_, _≤_}
 use native.Mathlib.Omega.{arith}
-use Rattle.machine.specs.declared.Next.{Next}
-use Rattle.machine.specs.declared.Next.the-variants.{Go, Halt, Fault}
 use Rattle.machine.specs.declared.Ending.the-variants.{Halted, Faulted, Unfinished}
 use borrow.Author.Tests.{le-ltb}
 use Rattle.instruction.specs.Instruction.{fetch, countOf}
-use Rattle.machine.specs.Step.{did, tried, stepOf}
+use Rattle.machine.specs.Step.{Next, Go, Halt, Fault, did, tried, stepOf}
 use Rattle.machine.specs.Run.{ran, runOf}
 
 module _ (code : List ℕ) (p : ℕ) (g m g′ m′ : List ℕ) (x : Next) (h : did x g′ m′ ≡ stepOf code p g m) where

@@ -2,10 +2,10 @@
 mod operation;
 
 ghost use mathlib.Core.Path.{_≡_};
-ghost use Prim.Native.Nat.{_≤_, _<_};
+ghost use Prim.Native.Nat.{_≤_, _<_, min};
 ghost use lib.ListN.{length, getD};
-ghost use Rattle.machine.specs.Step.{moved, did, stepOf};
 ghost use Rattle.instruction.specs.Instruction.{countOf};
+ghost use Rattle.machine.specs.Step.{moved, did, stepOf};
 ghost use Rattle.machine.specs.Run.{ran, runOf};
 ghost use Rattle.machine.specs.Entry.{shown, stateOf, sizesOf, runSaid, stepSaid, runEntry, stepEntry};
 
@@ -15,15 +15,8 @@ pub struct State {
     pub registers: [u32; 64],
 }
 
-// What one instruction leads to.
-pub enum Next {
-    Go(usize),
-    Halt,
-    Fault(u32),
-}
-
-// What one instruction leads to, from its place: on to the next one, or to another.
-pub enum Move {
+// What one instruction leads to: on to the next place, to another one, a halt or a fault.
+enum Move {
     On,
     To(usize),
     Halt,
@@ -40,7 +33,7 @@ pub enum Ending {
 // An ending, with the budget that is left and the place.
 struct Ended {
     ending: Ending,
-    left: u32,
+    left: usize,
     place: usize,
 }
 
@@ -90,20 +83,32 @@ fn advance(code: &[u32], place: usize, g: &mut [u32; 64], m: &mut [u32]) -> Move
     let b = code[at + 2];
     let c = code[at + 3];
     if instruction::formed(op, a, b, c) {
-        return operation::perform(code.len() / 4, place, g, m, op, a, b, c);
+        return operation::perform(code.len() / 4, g, m, op, a, b, c);
     }
     Move::Fault(2)
 }
 
 // The smaller of two numbers.
 fn smaller(a: usize, b: usize) -> usize
-    ensures { λ r. ⌜ (r ≤ a) × (r ≤ b) × (r < b → a ≤ r) ⌝ }
+    ensures { λ r. ⌜ r ≡ min a b ⌝ }
 {
     if a < b { a } else { b }
 }
 
+// The ending of a run that has so much budget left, at a place.
+fn stopped(ending: Ending, left: usize, place: usize) -> Ended
+    ensures { λ r. ⌜ (r .ending ≡ ending) × (r .left ≡ left) × (r .place ≡ place) ⌝ }
+{
+    Ended {
+        ending: ending,
+        left: left,
+        place: place,
+    }
+}
+
 // A run from a place under a budget: the one caller of `advance`, so that the step is part of the loop.
-// The budget that is left is limit - place, so that going on to the next place changes the place alone. A stretch of the code stops at its limit or at the code's end.
+// The budget that is left is limit - place, so that a step on to the next place changes the place alone; a jump takes the limit along.
+// The loop stops at the limit or at the end of the code, whichever comes first.
 fn proceed(code: &[u32], from: usize, g: &mut [u32; 64], m: &mut [u32], budget: u32) -> Ended
     requires { ⌜ (length (now code) ≤ 262144) × (getD (now g) 0 0 ≡ 0) × (length (now m) ≤ 65536) × (from < 4294967296) ⌝ }
     ensures { λ r. ⌜ ran (r .ending) (r .left) (r .place) (now (g .exit)) (now (m .exit)) ≡ runOf (now (code .entry)) budget from (now (g .entry)) (now (m .entry)) ⌝ }
@@ -124,33 +129,17 @@ fn proceed(code: &[u32], from: usize, g: &mut [u32; 64], m: &mut [u32], budget: 
                 stop = smaller(count, limit);
             }
             Move::Halt => {
-                return Ended {
-                    ending: Ending::Halted,
-                    left: (limit - place - 1) as u32,
-                    place: place,
-                };
+                return stopped(Ending::Halted, limit - place - 1, place);
             }
             Move::Fault(f) => {
-                return Ended {
-                    ending: Ending::Faulted(f),
-                    left: (limit - place) as u32,
-                    place: place,
-                };
+                return stopped(Ending::Faulted(f), limit - place, place);
             }
         }
     }
     if place < limit {
-        return Ended {
-            ending: Ending::Faulted(1),
-            left: (limit - place) as u32,
-            place: place,
-        };
+        return stopped(Ending::Faulted(1), limit - place, place);
     }
-    Ended {
-        ending: Ending::Unfinished,
-        left: 0,
-        place: place,
-    }
+    stopped(Ending::Unfinished, 0, place)
 }
 
 // Whether code of so many words and memory of so many cells are taken.
@@ -191,7 +180,7 @@ pub fn run_in_place(
             let e = proceed(code, from, registers, memory, budget);
             registers[0] = kept;
             let ending = e.ending;
-            let left = e.left;
+            let left = e.left as u32;
             let to = e.place;
             *place = to as u32;
             let steps = budget - left;

@@ -1,4 +1,4 @@
-// One instruction, done on the registers and the memory where they lie.
+// One instruction, done on the registers and the memory where they lie. Where it leads does not hang on its place: each contract is for every place p.
 use crate::Move;
 use instruction::ADD;
 use instruction::ADDI;
@@ -12,16 +12,23 @@ use instruction::NOP;
 use instruction::SLT;
 use instruction::STORE;
 use instruction::SUB;
-use word::Cell;
 ghost use mathlib.Core.Path.{_≡_};
 ghost use mathlib.Core.Bool.{true, cond, not};
-ghost use Prim.Native.Nat.{suc, _<_, _≤_};
+ghost use Prim.Native.Nat.{ℕ, suc, _<_, _≤_};
 ghost use lib.Dec.{eqb};
 ghost use lib.ListN.{length, getD};
 ghost use Rattle.word.specs.Word.{sumOf, differenceOf, productOf, lessOf, addressOf, cellOf};
 ghost use Rattle.instruction.specs.Instruction.{ins, formed};
-ghost use Rattle.machine.specs.declared.Next.the-variants.{Fault};
-ghost use Rattle.machine.specs.Step.{moved, did, readOf, wroteNext, wroteRegisters, cellAt, loads, stores, jumpsTo, branches, flagOf, perform as performOf};
+ghost use Rattle.machine.specs.Step.{Fault, moved, did, readOf, wroteNext, wroteRegisters, cellSaid, cellAt, loads, stores, jumpsTo, branches, flagOf, perform as performOf};
+
+// Words from this one on stand for negative numbers.
+const NEGATIVE: u32 = 2147483648;
+
+// What an address leads to: a cell of the memory, or none.
+enum Found {
+    At(usize),
+    Nowhere,
+}
 
 // What register r reads as, where place 0 is cleared.
 fn read(g: &[u32; 64], r: u32) -> u32
@@ -32,9 +39,9 @@ fn read(g: &[u32; 64], r: u32) -> u32
 }
 
 // Writes v to register a, and goes on.
-fn write(g: &mut [u32; 64], place: usize, a: u32, v: u32) -> Move
-    requires { ⌜ (a < 64) × (place < 65536) ⌝ }
-    ensures { λ r. ⌜ (moved place r ≡ wroteNext place a) × (now (g .exit) ≡ wroteRegisters a v (now (g .entry))) ⌝ }
+fn write(g: &mut [u32; 64], a: u32, v: u32) -> Move
+    requires { ⌜ a < 64 ⌝ }
+    ensures { λ r. ⌜ ((p : ℕ) → moved p r ≡ wroteNext p a) × (now (g .exit) ≡ wroteRegisters a v (now (g .entry))) ⌝ }
 {
     if a == 0 {
         return Move::Fault(3);
@@ -45,8 +52,8 @@ fn write(g: &mut [u32; 64], place: usize, a: u32, v: u32) -> Move
 }
 
 // A jump that is taken, in a code of count instructions.
-fn jump(count: usize, place: usize, l: u32) -> Move
-    ensures { λ r. ⌜ moved place r ≡ jumpsTo count l ⌝ }
+fn jump(count: usize, l: u32) -> Move
+    ensures { λ r. ⌜ ((p : ℕ) → moved p r ≡ jumpsTo count l) ⌝ }
 {
     let to = l as usize;
     if to < count {
@@ -57,12 +64,11 @@ fn jump(count: usize, place: usize, l: u32) -> Move
 }
 
 // A branch: a jump where it is taken.
-fn branch(taken: bool, count: usize, place: usize, l: u32) -> Move
-    requires { ⌜ place < 65536 ⌝ }
-    ensures { λ r. ⌜ moved place r ≡ branches taken count place l ⌝ }
+fn branch(taken: bool, count: usize, l: u32) -> Move
+    ensures { λ r. ⌜ ((p : ℕ) → moved p r ≡ branches taken count p l) ⌝ }
 {
     if taken {
-        return jump(count, place, l);
+        return jump(count, l);
     }
     Move::On
 }
@@ -74,53 +80,53 @@ fn flag(t: bool) -> u32
     if t { 1 } else { 0 }
 }
 
-fn add(g: &mut [u32; 64], place: usize, a: u32, b: u32, c: u32) -> Move
-    requires { ⌜ (a < 64) × (b < 64) × (c < 64) × (place < 65536) × (getD (now g) 0 0 ≡ 0) ⌝ }
-    ensures { λ r. ⌜ (moved place r ≡ wroteNext place a) × (now (g .exit) ≡ wroteRegisters a (sumOf (readOf (now (g .entry)) b) (readOf (now (g .entry)) c)) (now (g .entry))) ⌝ }
+fn add(g: &mut [u32; 64], a: u32, b: u32, c: u32) -> Move
+    requires { ⌜ (a < 64) × (b < 64) × (c < 64) × (getD (now g) 0 0 ≡ 0) ⌝ }
+    ensures { λ r. ⌜ ((p : ℕ) → moved p r ≡ wroteNext p a) × (now (g .exit) ≡ wroteRegisters a (sumOf (readOf (now (g .entry)) b) (readOf (now (g .entry)) c)) (now (g .entry))) ⌝ }
 {
     let x = read(g, b);
     let y = read(g, c);
-    write(g, place, a, word::sum(x, y))
+    write(g, a, word::sum(x, y))
 }
 
-fn addi(g: &mut [u32; 64], place: usize, a: u32, n: u32, c: u32) -> Move
-    requires { ⌜ (a < 64) × (c < 64) × (place < 65536) × (getD (now g) 0 0 ≡ 0) ⌝ }
-    ensures { λ r. ⌜ (moved place r ≡ wroteNext place a) × (now (g .exit) ≡ wroteRegisters a (sumOf n (readOf (now (g .entry)) c)) (now (g .entry))) ⌝ }
+fn addi(g: &mut [u32; 64], a: u32, n: u32, c: u32) -> Move
+    requires { ⌜ (a < 64) × (c < 64) × (getD (now g) 0 0 ≡ 0) ⌝ }
+    ensures { λ r. ⌜ ((p : ℕ) → moved p r ≡ wroteNext p a) × (now (g .exit) ≡ wroteRegisters a (sumOf n (readOf (now (g .entry)) c)) (now (g .entry))) ⌝ }
 {
     let y = read(g, c);
-    write(g, place, a, word::sum(n, y))
+    write(g, a, word::sum(n, y))
 }
 
-fn sub(g: &mut [u32; 64], place: usize, a: u32, b: u32, c: u32) -> Move
-    requires { ⌜ (a < 64) × (b < 64) × (c < 64) × (place < 65536) × (getD (now g) 0 0 ≡ 0) ⌝ }
-    ensures { λ r. ⌜ (moved place r ≡ wroteNext place a) × (now (g .exit) ≡ wroteRegisters a (differenceOf (readOf (now (g .entry)) b) (readOf (now (g .entry)) c)) (now (g .entry))) ⌝ }
-{
-    let x = read(g, b);
-    let y = read(g, c);
-    write(g, place, a, word::difference(x, y))
-}
-
-fn mul(g: &mut [u32; 64], place: usize, a: u32, b: u32, c: u32) -> Move
-    requires { ⌜ (a < 64) × (b < 64) × (c < 64) × (place < 65536) × (getD (now g) 0 0 ≡ 0) ⌝ }
-    ensures { λ r. ⌜ (moved place r ≡ wroteNext place a) × (now (g .exit) ≡ wroteRegisters a (productOf (readOf (now (g .entry)) b) (readOf (now (g .entry)) c)) (now (g .entry))) ⌝ }
+fn sub(g: &mut [u32; 64], a: u32, b: u32, c: u32) -> Move
+    requires { ⌜ (a < 64) × (b < 64) × (c < 64) × (getD (now g) 0 0 ≡ 0) ⌝ }
+    ensures { λ r. ⌜ ((p : ℕ) → moved p r ≡ wroteNext p a) × (now (g .exit) ≡ wroteRegisters a (differenceOf (readOf (now (g .entry)) b) (readOf (now (g .entry)) c)) (now (g .entry))) ⌝ }
 {
     let x = read(g, b);
     let y = read(g, c);
-    write(g, place, a, word::product(x, y))
+    write(g, a, word::difference(x, y))
 }
 
-fn slt(g: &mut [u32; 64], place: usize, a: u32, b: u32, c: u32) -> Move
-    requires { ⌜ (a < 64) × (b < 64) × (c < 64) × (place < 65536) × (getD (now g) 0 0 ≡ 0) ⌝ }
-    ensures { λ r. ⌜ (moved place r ≡ wroteNext place a) × (now (g .exit) ≡ wroteRegisters a (flagOf (lessOf (readOf (now (g .entry)) b) (readOf (now (g .entry)) c))) (now (g .entry))) ⌝ }
+fn mul(g: &mut [u32; 64], a: u32, b: u32, c: u32) -> Move
+    requires { ⌜ (a < 64) × (b < 64) × (c < 64) × (getD (now g) 0 0 ≡ 0) ⌝ }
+    ensures { λ r. ⌜ ((p : ℕ) → moved p r ≡ wroteNext p a) × (now (g .exit) ≡ wroteRegisters a (productOf (readOf (now (g .entry)) b) (readOf (now (g .entry)) c)) (now (g .entry))) ⌝ }
 {
     let x = read(g, b);
     let y = read(g, c);
-    write(g, place, a, flag(word::less(x, y)))
+    write(g, a, word::product(x, y))
+}
+
+fn slt(g: &mut [u32; 64], a: u32, b: u32, c: u32) -> Move
+    requires { ⌜ (a < 64) × (b < 64) × (c < 64) × (getD (now g) 0 0 ≡ 0) ⌝ }
+    ensures { λ r. ⌜ ((p : ℕ) → moved p r ≡ wroteNext p a) × (now (g .exit) ≡ wroteRegisters a (flagOf (lessOf (readOf (now (g .entry)) b) (readOf (now (g .entry)) c))) (now (g .entry))) ⌝ }
+{
+    let x = read(g, b);
+    let y = read(g, c);
+    write(g, a, flag(word::less(x, y)))
 }
 
 // A load whose address is outside memory: the write to $0 is checked first.
-fn missed(place: usize, a: u32) -> Move
-    ensures { λ r. ⌜ moved place r ≡ cond (eqb a 0) (Fault 3) (Fault 4) ⌝ }
+fn missed(a: u32) -> Move
+    ensures { λ r. ⌜ ((p : ℕ) → moved p r ≡ cond (eqb a 0) (Fault 3) (Fault 4)) ⌝ }
 {
     if a != 0 {
         Move::Fault(4)
@@ -129,76 +135,77 @@ fn missed(place: usize, a: u32) -> Move
     }
 }
 
-// The cell that base plus index names, in a memory of size cells: a wrapped sum that is inside is the exact one, unless both are negative.
-fn cell_at(base: u32, index: u32, size: usize) -> Cell
+// The cell that base plus index names, as an exact sum, in a memory of size cells.
+// The exact sum is the wrapped one, or 2^32 less or more. In a memory of at most 65,536 cells a wrapped sum that is outside is no cell's
+// number either way. One that is inside is the exact sum, unless both words are negative: then the exact sum is negative and names no cell.
+fn cell_at(base: u32, index: u32, size: usize) -> Found
     requires { ⌜ size ≤ 65536 ⌝ }
-    ensures { λ r. ⌜ r ≡ cellOf (addressOf base index) size ⌝ }
+    ensures { λ r. ⌜ cellSaid r ≡ cellOf (addressOf base index) size ⌝ }
 {
     let at = std::num::wrapping_add_u32(base, index) as usize;
     if size <= at {
-        return Cell::Nowhere;
+        return Found::Nowhere;
     }
-    if base < 2147483648 {
-        return Cell::At(at);
+    if base < NEGATIVE {
+        return Found::At(at);
     }
-    if index < 2147483648 {
-        return Cell::At(at);
+    if index < NEGATIVE {
+        return Found::At(at);
     }
-    Cell::Nowhere
+    Found::Nowhere
 }
 
-fn load(g: &mut [u32; 64], m: &[u32], place: usize, a: u32, b: u32, i: u32) -> Move
-    requires { ⌜ (a < 64) × (b < 64) × (i < 64) × (place < 65536) × (getD (now g) 0 0 ≡ 0) × (length (now m) ≤ 65536) ⌝ }
-    ensures { λ r. ⌜ did (moved place r) (now (g .exit)) (now (m .entry)) ≡ loads place a (cellAt (now (g .entry)) (now (m .entry)) b i) (now (g .entry)) (now (m .entry)) ⌝ }
+fn load(g: &mut [u32; 64], m: &[u32], a: u32, b: u32, i: u32) -> Move
+    requires { ⌜ (a < 64) × (b < 64) × (i < 64) × (getD (now g) 0 0 ≡ 0) × (length (now m) ≤ 65536) ⌝ }
+    ensures { λ r. ⌜ ((p : ℕ) → did (moved p r) (now (g .exit)) (now (m .entry)) ≡ loads p a (cellAt (now (g .entry)) (now (m .entry)) b i) (now (g .entry)) (now (m .entry))) ⌝ }
 {
     let x = read(g, b);
     let y = read(g, i);
     let cell = cell_at(x, y, m.len());
     match cell {
-        Cell::At(k) => write(g, place, a, m[k]),
-        Cell::Nowhere => missed(place, a),
+        Found::At(k) => write(g, a, m[k]),
+        Found::Nowhere => missed(a),
     }
 }
 
-fn store(g: &[u32; 64], m: &mut [u32], place: usize, b: u32, i: u32, a: u32) -> Move
-    requires { ⌜ (a < 64) × (b < 64) × (i < 64) × (place < 65536) × (getD (now g) 0 0 ≡ 0) × (length (now m) ≤ 65536) ⌝ }
-    ensures { λ r. ⌜ did (moved place r) (now (g .entry)) (now (m .exit)) ≡ stores place (readOf (now (g .entry)) a) (cellAt (now (g .entry)) (now (m .entry)) b i) (now (g .entry)) (now (m .entry)) ⌝ }
+fn store(g: &[u32; 64], m: &mut [u32], b: u32, i: u32, a: u32) -> Move
+    requires { ⌜ (a < 64) × (b < 64) × (i < 64) × (getD (now g) 0 0 ≡ 0) × (length (now m) ≤ 65536) ⌝ }
+    ensures { λ r. ⌜ ((p : ℕ) → did (moved p r) (now (g .entry)) (now (m .exit)) ≡ stores p (readOf (now (g .entry)) a) (cellAt (now (g .entry)) (now (m .entry)) b i) (now (g .entry)) (now (m .entry))) ⌝ }
 {
     let x = read(g, b);
     let y = read(g, i);
     let v = read(g, a);
     let cell = cell_at(x, y, m.len());
     match cell {
-        Cell::At(k) => {
+        Found::At(k) => {
             m[k] = v;
             Move::On
         }
-        Cell::Nowhere => Move::Fault(4),
+        Found::Nowhere => Move::Fault(4),
     }
 }
 
-fn bne(g: &[u32; 64], count: usize, place: usize, a: u32, b: u32, l: u32) -> Move
-    requires { ⌜ (a < 64) × (b < 64) × (place < 65536) × (getD (now g) 0 0 ≡ 0) ⌝ }
-    ensures { λ r. ⌜ moved place r ≡ branches (not (eqb (readOf (now (g .entry)) a) (readOf (now (g .entry)) b))) count place l ⌝ }
+fn bne(g: &[u32; 64], count: usize, a: u32, b: u32, l: u32) -> Move
+    requires { ⌜ (a < 64) × (b < 64) × (getD (now g) 0 0 ≡ 0) ⌝ }
+    ensures { λ r. ⌜ ((p : ℕ) → moved p r ≡ branches (not (eqb (readOf (now (g .entry)) a) (readOf (now (g .entry)) b))) count p l) ⌝ }
 {
     let x = read(g, a);
     let y = read(g, b);
-    branch(x != y, count, place, l)
+    branch(x != y, count, l)
 }
 
-fn beq(g: &[u32; 64], count: usize, place: usize, a: u32, b: u32, l: u32) -> Move
-    requires { ⌜ (a < 64) × (b < 64) × (place < 65536) × (getD (now g) 0 0 ≡ 0) ⌝ }
-    ensures { λ r. ⌜ moved place r ≡ branches (eqb (readOf (now (g .entry)) a) (readOf (now (g .entry)) b)) count place l ⌝ }
+fn beq(g: &[u32; 64], count: usize, a: u32, b: u32, l: u32) -> Move
+    requires { ⌜ (a < 64) × (b < 64) × (getD (now g) 0 0 ≡ 0) ⌝ }
+    ensures { λ r. ⌜ ((p : ℕ) → moved p r ≡ branches (eqb (readOf (now (g .entry)) a) (readOf (now (g .entry)) b)) count p l) ⌝ }
 {
     let x = read(g, a);
     let y = read(g, b);
-    branch(x == y, count, place, l)
+    branch(x == y, count, l)
 }
 
-// The instruction op a b c, at a place of a code of count instructions.
+// The instruction op a b c, in a code of count instructions.
 pub(crate) fn perform(
     count: usize,
-    place: usize,
     g: &mut [u32; 64],
     m: &mut [u32],
     op: u32,
@@ -206,22 +213,22 @@ pub(crate) fn perform(
     b: u32,
     c: u32,
 ) -> Move
-    requires { ⌜ (formed (ins op a b c) ≡ true) × (place < 65536) × (getD (now g) 0 0 ≡ 0) × (length (now m) ≤ 65536) ⌝ }
-    ensures { λ r. ⌜ did (moved place r) (now (g .exit)) (now (m .exit)) ≡ performOf count place (now (g .entry)) (now (m .entry)) (ins op a b c) ⌝ }
+    requires { ⌜ (formed (ins op a b c) ≡ true) × (getD (now g) 0 0 ≡ 0) × (length (now m) ≤ 65536) ⌝ }
+    ensures { λ r. ⌜ ((p : ℕ) → did (moved p r) (now (g .exit)) (now (m .exit)) ≡ performOf count p (now (g .entry)) (now (m .entry)) (ins op a b c)) ⌝ }
 {
     match op {
         HALT => Move::Halt,
         NOP => Move::On,
-        ADD => add(g, place, a, b, c),
-        ADDI => addi(g, place, a, b, c),
-        SUB => sub(g, place, a, b, c),
-        MUL => mul(g, place, a, b, c),
-        LOAD => load(g, m, place, a, b, c),
-        STORE => store(g, m, place, a, b, c),
-        JMP => jump(count, place, a),
-        BNE => bne(g, count, place, a, b, c),
-        BEQ => beq(g, count, place, a, b, c),
-        SLT => slt(g, place, a, b, c),
+        ADD => add(g, a, b, c),
+        ADDI => addi(g, a, b, c),
+        SUB => sub(g, a, b, c),
+        MUL => mul(g, a, b, c),
+        LOAD => load(g, m, a, b, c),
+        STORE => store(g, m, a, b, c),
+        JMP => jump(count, a),
+        BNE => bne(g, count, a, b, c),
+        BEQ => beq(g, count, a, b, c),
+        SLT => slt(g, a, b, c),
         _ => Move::Fault(2),
     }
 }

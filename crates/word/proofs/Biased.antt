@@ -6,9 +6,7 @@ use native.Mathlib.Omega.{arith}
 use lib.Dec.{ltb}
 use lib.IntN.{ℤ, pos, negsuc, subℕ, _+ℤ_}
 use borrow.Author.Tests.{lt-ltb, le-ltb, ltb-true, ltb-false}
-use Rattle.word.specs.Word.{signed, lessOf, addressOf, cellOf}
-use Rattle.word.specs.declared.Cell.{Cell}
-use Rattle.word.specs.declared.Cell.the-variants.{At, Nowhere}
+use Rattle.word.specs.Word.{signed, lessOf, addressOf, cellOf, Cell, At, Nowhere}
 
 -- a word with 2^31 added, wrapped: 0 for the least signed number
 abbrev pub biased : ℕ → ℕ
@@ -89,43 +87,43 @@ address-law a b ha hb = go (ltb a 2147483648) refl (ltb b 2147483648) refl
         let h = ltb-false a _ p in let k = ltb-false b _ q in
         rw (signed-high a p, signed-high b q, lt-ltb (biased a + biased b) 4294967296 (omega arith)) (ap negsuc (omega arith))
 
--- what an address sum leads to, by the biased words x and y of a and b
-module _ (a b size x y : ℕ) (ha : a < 4294967296) (hb : b < 4294967296) (hx : x ≡ biased a) (hy : y ≡ biased b) where
-  tied : addressOf a b ≡ subℕ (x + y) 4294967296
+-- what an address sum leads to, by the biased words
+module _ (a b size : ℕ) (ha : a < 4294967296) (hb : b < 4294967296) where
+  tied : addressOf a b ≡ subℕ (biased a + biased b) 4294967296
   unfolding addressOf
-  tied = rw (hx, hy) (address-law a b ha hb)
+  tied = address-law a b ha hb
 
-  pub cell-below : x + y < 4294967296 → Nowhere ≡ cellOf (addressOf a b) size
+  cell-below : biased a + biased b < 4294967296 → Nowhere ≡ cellOf (addressOf a b) size
   unfolding cellOf
-  cell-below h = rw (tied, lt-ltb (x + y) 4294967296 h)
+  cell-below h = rw (tied, lt-ltb (biased a + biased b) 4294967296 h)
 
-  pub cell-in : 4294967296 ≤ x + y → x + y - 4294967296 < size → At (x + y - 4294967296) ≡ cellOf (addressOf a b) size
+  cell-in : 4294967296 ≤ biased a + biased b → biased a + biased b - 4294967296 < size → At (biased a + biased b - 4294967296) ≡ cellOf (addressOf a b) size
   unfolding cellOf
-  cell-in h k = rw (tied, le-ltb (x + y) 4294967296 h, lt-ltb (x + y - 4294967296) size k)
+  cell-in h k = rw (tied, le-ltb (biased a + biased b) 4294967296 h, lt-ltb (biased a + biased b - 4294967296) size k)
 
-  pub cell-past : 4294967296 ≤ x + y → size ≤ x + y - 4294967296 → Nowhere ≡ cellOf (addressOf a b) size
+  cell-past : 4294967296 ≤ biased a + biased b → size ≤ biased a + biased b - 4294967296 → Nowhere ≡ cellOf (addressOf a b) size
   unfolding cellOf
-  cell-past h k = rw (tied, le-ltb (x + y) 4294967296 h, le-ltb (x + y - 4294967296) size k)
+  cell-past h k = rw (tied, le-ltb (biased a + biased b) 4294967296 h, le-ltb (biased a + biased b - 4294967296) size k)
 
--- where the memory has at most 2^31 cells, a wrapped sum that is inside is the exact address, unless both words are negative
-module _ (a b size s : ℕ) (ha : a < 4294967296) (hb : b < 4294967296) (few : size ≤ 2147483648) (hs : s ≡ (a + b) % 4294967296) where
-  pub near-past : size ≤ s → Nowhere ≡ cellOf (addressOf a b) size
-  near-past h = go (ltb (biased a + biased b) 4294967296) refl
-    where
-      go : (t : Bool) → ltb (biased a + biased b) 4294967296 ≡ t → Nowhere ≡ cellOf (addressOf a b) size
-      go true e = cell-below a b size (biased a) (biased b) ha hb refl refl (ltb-true _ _ e)
-      go false e =
-          let k = ltb-false (biased a + biased b) 4294967296 e in
-          cell-past a b size (biased a) (biased b) ha hb refl refl k (omega arith)
+  -- in a memory of at most 2^31 cells a wrapped sum that is inside is the exact address, unless both words are negative
+  module _ (s : ℕ) (few : size ≤ 2147483648) (hs : s ≡ (a + b) % 4294967296) where
+    pub wrapped-past : size ≤ s → Nowhere ≡ cellOf (addressOf a b) size
+    wrapped-past h = go (ltb (biased a + biased b) 4294967296) refl
+      where
+        go : (t : Bool) → ltb (biased a + biased b) 4294967296 ≡ t → Nowhere ≡ cellOf (addressOf a b) size
+        go true e = cell-below (ltb-true _ _ e)
+        go false e =
+            let k = ltb-false (biased a + biased b) 4294967296 e in
+            cell-past k (omega arith)
 
-  pub near-low : s < size → a < 2147483648 → At s ≡ cellOf (addressOf a b) size
-  near-low h l = ap At (omega arith) ∙ cell-in a b size (biased a) (biased b) ha hb refl refl (omega arith) (omega arith)
+    pub wrapped-base : s < size → a < 2147483648 → At s ≡ cellOf (addressOf a b) size
+    wrapped-base h l = ap At (omega arith) ∙ cell-in (omega arith) (omega arith)
 
-  pub near-index : s < size → b < 2147483648 → At s ≡ cellOf (addressOf a b) size
-  near-index h l = ap At (omega arith) ∙ cell-in a b size (biased a) (biased b) ha hb refl refl (omega arith) (omega arith)
+    pub wrapped-index : s < size → b < 2147483648 → At s ≡ cellOf (addressOf a b) size
+    wrapped-index h l = ap At (omega arith) ∙ cell-in (omega arith) (omega arith)
 
-  pub near-none : 2147483648 ≤ a → 2147483648 ≤ b → Nowhere ≡ cellOf (addressOf a b) size
-  near-none h l = cell-below a b size (biased a) (biased b) ha hb refl refl (omega arith)
+  pub both-negative : 2147483648 ≤ a → 2147483648 ≤ b → Nowhere ≡ cellOf (addressOf a b) size
+  both-negative h l = cell-below (omega arith)
 
 -- a cell that an address leads to is one of the memory's
 pub cell-within : (z : ℤ) (size : ℕ) {o : Cell} {k : ℕ} → o ≡ cellOf z size → o ≡ At k → k < size

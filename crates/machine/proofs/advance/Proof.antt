@@ -50,14 +50,14 @@ formed-requires : tie.Need-formed-requires
 formed-requires c κs = search needs
 
 perform-requires : tie.Need-perform-requires
-perform-requires c κs = (sym (c .before .before .before .formed .ensures) ∙ c .before .before .if1 .taken, omega (arith, c .before .before .before .before .before .before .before .before .before .before .pre .0, c .before .before .before .before .before .before .before .before .before .before .pre .3), c .before .before .before .before .before .before .before .before .before .before .pre .1, c .before .before .before .before .before .before .before .before .before .before .pre .2)
+perform-requires c κs = (sym (c .before .before .before .formed .ensures) ∙ c .before .before .if1 .taken, c .before .before .before .before .before .before .before .before .before .before .pre .1, c .before .before .before .before .before .before .before .before .before .before .pre .2)
 
 same-length : tie.Need-same-length
 same-length c = search needs
 
 returns : tie.Need-returns
 unfolding stepOf fetch tried
-returns c = rw (lt-ltb _ _ (c .before .before .before .before .before .before .before .before .before .before .before .before .before .pre .3), decode-back _ _ _ _ (sym (c .before .before .before .before .before .before .formed .ensures) ∙ c .before .before .before .before .before .if1 .taken)) (c .before .before .perform .ensures)
+returns c = rw (lt-ltb _ _ (c .before .before .before .before .before .before .before .before .before .before .before .before .before .pre .3), decode-back _ _ _ _ (sym (c .before .before .before .before .before .before .formed .ensures) ∙ c .before .before .before .before .before .if1 .taken)) (c .before .before .perform .ensures _)
 
 returns-2 : tie.Need-returns-2
 unfolding stepOf fetch tried

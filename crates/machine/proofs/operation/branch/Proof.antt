@@ -8,10 +8,10 @@ jump-requires : tie.Need-jump-requires
 jump-requires c κs = search needs
 
 returns : tie.Need-returns
-returns c = rw (c .before .if1 .taken) (c .jump .ensures)
+returns c p = rw (c .before .if1 .taken) (c .jump .ensures p)
 
 returns-2 : tie.Need-returns-2
-returns-2 c = rw (c .if1 .left)
+returns-2 c p = rw (c .if1 .left)
 
 pub branch-spec : {M : Type 1} → statement M
 branch-spec = tie.close (tie.spec jump-requires returns returns-2)
