@@ -136,8 +136,8 @@ fn missed(a: u32) -> Move
 }
 
 // The cell that base plus index names, as an exact sum, in a memory of size cells.
-// The exact sum is the wrapped one, or 2^32 less or more. In a memory of at most 65,536 cells a wrapped sum that is outside is no cell's
-// number either way. One that is inside is the exact sum, unless both words are negative: then the exact sum is negative and names no cell.
+// The exact sum is the wrapped one, or it is negative and 2^32 less, and then it names no cell. Where the wrapped sum is inside a memory of at
+// most 65,536 cells, a negative one is below -2^31: it is that of two negative words, and two negative words have no other.
 fn cell_at(base: u32, index: u32, size: usize) -> Found
     requires { ⌜ size ≤ 65536 ⌝ }
     ensures { λ r. ⌜ cellSaid r ≡ cellOf (addressOf base index) size ⌝ }

@@ -2,7 +2,7 @@
 -- Assumes nothing.
 use mathlib.Core.Path.{_≡_, refl, sym, _∙_, ap}
 use mathlib.Core.Bool.{Bool, true, false, cond}
-use mathlib.Core.List.{List}
+use mathlib.Core.List.{List, [], _∷_}
 use Prim.Native.Nat.{ℕ}
 use lib.Dec.{eqb}
 use lib.ListN.{getD, set}
@@ -20,8 +20,16 @@ abbrev pub asStep : Left → Left
 asStep x = left (x .number) (wentOn (x .answer)) (x .state) (x .memory)
 
 pub step-words : (code m : List ℕ) (s : State) → inWords (stepEntry code m s) ≡ asStep (inWords (runEntry code m s 1))
-step-words =
-    step-beside-run (λ (x y : Shown). inWords x ≡ asStep (inWords y)) (λ n s m. refl) (λ s m. refl) (λ s m. refl) (λ f s m. refl)
+step-words = step-beside-run (λ (x y : Shown). inWords x ≡ asStep (inWords y)) (λ n s m. refl) goes halts faults
+  where
+    goes : (s : State) (m : List ℕ) → left 0 (0 ∷ 0 ∷ 1 ∷ []) s m ≡ left 0 (wentOn (3 ∷ 0 ∷ 1 ∷ [])) s m
+    goes s m = refl
+
+    halts : (s : State) (m : List ℕ) → left 0 (1 ∷ 0 ∷ 1 ∷ []) s m ≡ left 0 (wentOn (1 ∷ 0 ∷ 1 ∷ [])) s m
+    halts s m = refl
+
+    faults : (f : ℕ) (s : State) (m : List ℕ) → left 0 (2 ∷ f ∷ 0 ∷ []) s m ≡ left 0 (wentOn (2 ∷ f ∷ 0 ∷ [])) s m
+    faults f s m = refl
 
 -- what a run under the budget 1 has left, by the first word of its answer
 module _ (code m : List ℕ) (s : State) (n : ℕ) (a : List ℕ) (t : State) (l : List ℕ) (h : left n a t l ≡ inWords (runEntry code m s 1)) where
