@@ -33,7 +33,7 @@ pub enum Ending {
 // An ending, with the budget that is left and the place.
 struct Ended {
     ending: Ending,
-    left: usize,
+    left: u32,
     place: usize,
 }
 
@@ -97,11 +97,12 @@ fn smaller(a: usize, b: usize) -> usize
 
 // The ending of a run that has so much budget left, at a place.
 fn stopped(ending: Ending, left: usize, place: usize) -> Ended
+    requires { ⌜ left < 4294967296 ⌝ }
     ensures { λ r. ⌜ (r .ending ≡ ending) × (r .left ≡ left) × (r .place ≡ place) ⌝ }
 {
     Ended {
         ending: ending,
-        left: left,
+        left: left as u32,
         place: place,
     }
 }
@@ -180,7 +181,7 @@ pub fn run_in_place(
             let e = proceed(code, from, registers, memory, budget);
             registers[0] = kept;
             let ending = e.ending;
-            let left = e.left as u32;
+            let left = e.left;
             let to = e.place;
             *place = to as u32;
             let steps = budget - left;

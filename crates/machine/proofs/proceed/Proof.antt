@@ -94,7 +94,7 @@ sub-stopped-2 : tie.Need-sub-stopped-2 Inv-loop μ-loop
 sub-stopped-2 c = omega arith
 
 stopped-requires : tie.Need-stopped-requires Inv-loop μ-loop
-stopped-requires c κs = search needs
+stopped-requires c κs = omega (arith, c .before .before .before .before .before .before .before .before .loop .inv .1, c .before .before .before .before .before .before .before .before .before .before .before .before .fits .budget .fits)
 
 same-length : tie.Need-same-length Inv-loop μ-loop
 same-length c = search needs
@@ -112,7 +112,7 @@ sub-stopped-3 : tie.Need-sub-stopped-3 Inv-loop μ-loop
 sub-stopped-3 c = omega arith
 
 stopped-requires-2 : tie.Need-stopped-requires-2 Inv-loop μ-loop
-stopped-requires-2 c κs = search needs
+stopped-requires-2 c κs = omega (arith, c .before .before .before .before .before .before .before .before .before .loop .inv .1, c .before .before .before .before .before .before .before .before .before .before .before .before .before .fits .budget .fits)
 
 same-length-2 : tie.Need-same-length-2 Inv-loop μ-loop
 same-length-2 c = search needs
@@ -127,7 +127,7 @@ sub-stopped-4 : tie.Need-sub-stopped-4 Inv-loop μ-loop
 sub-stopped-4 c = omega arith
 
 stopped-requires-3 : tie.Need-stopped-requires-3 Inv-loop μ-loop
-stopped-requires-3 c κs = search needs
+stopped-requires-3 c κs = omega (arith, c .before .before .loop .inv .1, c .before .before .before .before .before .before .fits .budget .fits)
 
 same-length-3 : tie.Need-same-length-3 Inv-loop μ-loop
 same-length-3 c = search needs

@@ -35,16 +35,11 @@ proceed-requires c κs =
 element-write-registers-2 : tie.Need-element-write-registers-2
 element-write-registers-2 c = search needs
 
-cast-left : tie.Need-cast-left
-cast-left c =
-    let h = left-at _ _ _ _ _ _ (c .before .before .before .proceed .ensures) in
-    record { fits = omega (arith, h, c .before .before .before .before .before .before .before .before .before .before .before .before .before .fits .budget .fits) }
-
 cast-place : tie.Need-cast-place
-cast-place c = record { fits = place-at _ _ _ _ _ _ (fine-sizes _ _ (sym (c .before .before .before .before .before .before .before .before .before .before .check-sizes .ensures) ∙ c .before .before .before .before .before .before .before .before .enum-told3 .given .1) .0) (search needs) (c .before .before .before .proceed .ensures) }
+cast-place c = record { fits = place-at _ _ _ _ _ _ (fine-sizes _ _ (sym (c .before .before .before .before .before .before .before .before .before .check-sizes .ensures) ∙ c .before .before .before .before .before .before .before .enum-told3 .given .1) .0) (search needs) (c .before .before .proceed .ensures) }
 
 sub-steps : tie.Need-sub-steps
-sub-steps c = let h = left-at _ _ _ _ _ _ (c .before .before .before .proceed .ensures) in omega arith
+sub-steps c = let h = left-at _ _ _ _ _ _ (c .before .before .proceed .ensures) in omega arith
 
 returns : tie.Need-returns
 unfolding runEntry
@@ -59,7 +54,7 @@ same-length c = search needs
 
 returns-3 : tie.Need-returns-3
 unfolding runEntry
-returns-3 c = rw (← c .before .before .before .before .before .before .before .before .before .before .check-sizes .ensures, c .before .before .before .before .before .before .before .before .enum-told3 .given .1, ← put-back _ 0 _ _ _ _ _ (c .before .before .before .proceed .ensures))
+returns-3 c = rw (← c .before .before .before .before .before .before .before .before .before .check-sizes .ensures, c .before .before .before .before .before .before .before .enum-told3 .given .1, ← put-back _ 0 _ _ _ _ _ (c .before .before .proceed .ensures))
 
 pub run-in-place-spec : {M : Type 1} → statement M
 run-in-place-spec =
@@ -73,7 +68,6 @@ run-in-place-spec =
     element-write-registers
     proceed-requires
     element-write-registers-2
-    cast-left
     cast-place
     sub-steps
     returns
