@@ -18,11 +18,14 @@ ghost use Prim.Native.Nat.{ℕ, suc, _<_, _≤_};
 ghost use lib.Dec.{eqb};
 ghost use lib.ListN.{length, getD};
 ghost use Rattle.word.specs.Word.{sumOf, differenceOf, productOf, lessOf, addressOf, cellOf};
+ghost use Rattle.word.proofs.Biased.{long};
 ghost use Rattle.instruction.specs.Instruction.{ins, formed};
 ghost use Rattle.machine.specs.Step.{Fault, moved, did, readOf, wroteNext, wroteRegisters, cellSaid, cellAt, loads, stores, jumpsTo, branches, flagOf, perform as performOf};
 
-// Words from this one on stand for negative numbers.
-const NEGATIVE: u32 = 2147483648;
+// The word that stands for the least number, -2147483648, and the same number in 64 bits.
+const LEAST: u32 = 2147483648;
+
+const LEAST_LONG: u64 = 18446744071562067968;
 
 // What an address leads to: a cell of the memory, or none.
 enum Found {
@@ -135,21 +138,20 @@ fn missed(a: u32) -> Move
     }
 }
 
-// The cell that base plus index names, as an exact sum, in a memory of size cells.
-// The exact sum is the wrapped one, or it is negative and 2^32 less, and then it names no cell. Where the wrapped sum is inside a memory of at
-// most 65,536 cells, a negative one is below -2^31: it is that of two negative words, and two negative words have no other.
+// The signed number that a word stands for, in 64 bits, wrapped: 2^31 is added to the word, and taken away where there is room for the sign.
+fn lengthened(x: u32) -> u64
+    ensures { λ r. ⌜ r ≡ long x ⌝ }
+{
+    std::num::wrapping_add_u64(std::num::wrapping_add_u32(x, LEAST) as u64, LEAST_LONG)
+}
+
+// The cell that base plus index names, in a memory of size cells. In 64 bits the sum of two signed words is exact: it cannot come back to a cell by wrapping, and a negative one is larger than any size.
 fn cell_at(base: u32, index: u32, size: usize) -> Found
     requires { ⌜ size ≤ 65536 ⌝ }
     ensures { λ r. ⌜ cellSaid r ≡ cellOf (addressOf base index) size ⌝ }
 {
-    let at = std::num::wrapping_add_u32(base, index) as usize;
-    if size <= at {
-        return Found::Nowhere;
-    }
-    if base < NEGATIVE {
-        return Found::At(at);
-    }
-    if index < NEGATIVE {
+    let at = std::num::wrapping_add_u64(lengthened(base), lengthened(index)) as usize;
+    if at < size {
         return Found::At(at);
     }
     Found::Nowhere

@@ -1,6 +1,6 @@
 -- A word with 2^31 added, wrapped: its order is that of the signed numbers, and its sums give the exact address.
 use Prim.Native.Nat.{ℕ, suc, _+_, _-_, _%_, _<_, _≤_}
-use mathlib.Core.Path.{_≡_, refl, sym, _∙_, ap}
+use mathlib.Core.Path.{_≡_, refl, sym, _∙_, ap, subst}
 use mathlib.Core.Bool.{Bool, true, false, cond}
 use native.Mathlib.Omega.{arith}
 use lib.Dec.{ltb}
@@ -11,6 +11,22 @@ use Rattle.word.specs.Word.{signed, lessOf, addressOf, cellOf, Cell, At,
 -- a word with 2^31 added, wrapped: 0 for the least signed number
 abbrev pub biased : ℕ → ℕ
 biased a = (a + 2147483648) % 4294967296
+
+-- the signed number in 64 bits, wrapped: 2^31 less than the biased word
+abbrev pub long : ℕ → ℕ
+long a = (biased a + 18446744071562067968) % 18446744073709551616
+
+-- the sum of two such numbers, of the biased words x and y, is the exact one
+module _ (x y s : ℕ) (hx : x < 4294967296) (hy : y < 4294967296) (sum : s ≡ ((x + 18446744071562067968) % 18446744073709551616 + (y + 18446744071562067968) % 18446744073709551616) % 18446744073709551616) where
+  long-sum : 4294967296 ≤ x + y → s ≡ x + y - 4294967296
+  long-sum h = omega arith
+
+  long-negative : x + y < 4294967296 → s ≡ x + y + 18446744069414584320
+  long-negative h = omega arith
+
+-- and a negative one is past every memory
+no-cell : (z s size : ℕ) → size ≤ 65536 → s ≡ z + 18446744069414584320 → s < size → ⊥
+no-cell z s size few e h = omega arith
 
 -- two tests agree where each one's fact gives the other's
 pub ltb-same : (x y a b : ℕ) → (x < y → a < b) → (a < b → x < y) → ltb x y ≡ ltb a b
@@ -105,25 +121,31 @@ module _ (a b size : ℕ) (ha : a < 4294967296) (hb : b < 4294967296) where
   unfolding cellOf
   cell-past h k = rw (tied, le-ltb (biased a + biased b) 4294967296 h, le-ltb (biased a + biased b - 4294967296) size k)
 
-  -- in a memory of at most 2^31 cells a wrapped sum that is inside is the exact address, unless both words are negative
-  module _ (s : ℕ) (few : size ≤ 2147483648) (hs : s ≡ (a + b) % 4294967296) where
-    pub wrapped-past : size ≤ s → Nowhere ≡ cellOf (addressOf a b) size
-    wrapped-past h = go (ltb (biased a + biased b) 4294967296) refl
+  -- the sum in 64 bits is the exact address, or past every memory where that is negative
+  module _ (s : ℕ) (few : size ≤ 65536) (sum : s ≡ (long a + long b) % 18446744073709551616) where
+    abbrev exactly : 4294967296 ≤ biased a + biased b → s ≡ biased a + biased b - 4294967296
+    exactly = long-sum (biased a) (biased b) s (omega arith) (omega arith) sum
+
+    abbrev negatively : biased a + biased b < 4294967296 → s ≡ biased a + biased b + 18446744069414584320
+    negatively = long-negative (biased a) (biased b) s (omega arith) (omega arith) sum
+
+    pub long-inside : s < size → At s ≡ cellOf (addressOf a b) size
+    long-inside h = go (ltb (biased a + biased b) 4294967296) refl
+      where
+        go : (t : Bool) → ltb (biased a + biased b) 4294967296 ≡ t → At s ≡ cellOf (addressOf a b) size
+        go true e = absurd (no-cell (biased a + biased b) s size few (negatively (ltb-true _ _ e)) h)
+        go false e =
+            let k = ltb-false (biased a + biased b) 4294967296 e in
+            ap At (exactly k) ∙ cell-in k (subst (λ (n : ℕ). n < size) (exactly k) h)
+
+    pub long-outside : size ≤ s → Nowhere ≡ cellOf (addressOf a b) size
+    long-outside h = go (ltb (biased a + biased b) 4294967296) refl
       where
         go : (t : Bool) → ltb (biased a + biased b) 4294967296 ≡ t → Nowhere ≡ cellOf (addressOf a b) size
         go true e = cell-below (ltb-true _ _ e)
         go false e =
             let k = ltb-false (biased a + biased b) 4294967296 e in
-            cell-past k (omega arith)
-
-    pub wrapped-base : s < size → a < 2147483648 → At s ≡ cellOf (addressOf a b) size
-    wrapped-base h l = ap At (omega arith) ∙ cell-in (omega arith) (omega arith)
-
-    pub wrapped-index : s < size → b < 2147483648 → At s ≡ cellOf (addressOf a b) size
-    wrapped-index h l = ap At (omega arith) ∙ cell-in (omega arith) (omega arith)
-
-  pub both-negative : 2147483648 ≤ a → 2147483648 ≤ b → Nowhere ≡ cellOf (addressOf a b) size
-  both-negative h l = cell-below (omega arith)
+            cell-past k (subst (λ (n : ℕ). size ≤ n) (exactly k) h)
 
 -- a cell that an address leads to is one of the memory's
 pub cell-within : (z : ℤ) (size : ℕ) {o : Cell} {k : ℕ} → o ≡ cellOf z size → o ≡ At k → k < size
