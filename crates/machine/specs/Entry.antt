@@ -1,5 +1,5 @@
 -- What the two entry points answer, in the paper's numbers. 01-scope.md, "The machine" and "Numbered refusals".
-use mathlib.Core.Bool.{Bool, cond, _&&_}
+use mathlib.Core.Bool.{cond, _&&_}
 use mathlib.Core.List.{List}
 use Prim.Native.Nat.{ℕ, _-_, _%_}
 use lib.Dec.{eqb, leb}

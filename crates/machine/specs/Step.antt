@@ -1,5 +1,5 @@
 -- One step of the machine, over the registers and the memory as lists of words. 01-scope.md, "The machine"; source document 000.
-use mathlib.Core.Bool.{Bool, true, false, cond, not}
+use mathlib.Core.Bool.{Bool, cond, not}
 use mathlib.Core.List.{List, [], _∷_}
 use Prim.Native.Nat.{ℕ, suc}
 use lib.Dec.{ltb, eqb}

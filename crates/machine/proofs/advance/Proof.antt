@@ -1,7 +1,6 @@
 -- `advance`: the place, then the form, then the instruction's rule.
 -- Assumes nothing.
 use borrow.Author.Tests.{lt-ltb}
-use native.Mathlib.Omega.{arith}
 use mathlib.Core.Path.{_∙_, sym}
 use Rattle.instruction.proofs.Forms.{decode-back, decode-none}
 use Rattle.instruction.specs.Instruction.{fetch}
