@@ -64,7 +64,7 @@ extern "C" {
  *
  * in the three passes that work out the registers needed and the instructions
  * and then emit them, one after the other. The deepest rule (480 commands
- * within each other around 62 nots) takes 119,959. Step and run take 231. The
+ * within each other around 62 nots) takes 119,959. Step and run take 215. The
  * rest is a reserve. What the system keeps on a thread's stack (3 to 5 KB with
  * glibc) comes on top, and so do handlers of signals that run on it.
  */

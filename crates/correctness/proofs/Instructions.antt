@@ -8,13 +8,10 @@ use native.Mathlib.Omega.{arith}
 use lib.Dec.{eqb}
 use lib.IntN.{ℤ}
 use lib.ListN.{length, getD, set}
-use Rattle.word.specs.Word.{Word, sumOf, cellOf, addressOf}
-use Rattle.word.specs.declared.Cell.{Cell}
-use Rattle.word.specs.declared.Cell.the-variants.{At, Nowhere}
+use Rattle.word.specs.Word.{Word, sumOf, cellOf, addressOf, Cell, At, Nowhere}
 use Rattle.instruction.specs.Instruction as I
 use Rattle.instruction.specs.Instruction.{Instruction, ins, found, fetch, countOf, addi, load, jmp, beq, bne}
-use Rattle.machine.specs.declared.Next.the-variants.{Go}
-use Rattle.machine.specs.Step.{did, readOf, loads, stores, branches, perform, stepOf}
+use Rattle.machine.specs.Step.{Go, did, readOf, loads, stores, branches, perform, stepOf}
 use Rattle.machine.specs.Run.{runOf}
 use Rattle.correctness.specs.Meaning.{out, M, read, readCell, store, storeCell}
 use Rattle.correctness.proofs.Frame.{Keep, keep-refl}

@@ -8,8 +8,7 @@ use lib.IntN.{pos}
 use lib.ListN.{length, getD, set, take}
 use lib.Seq.{getD-set-same}
 use borrow.Author.Tests.{lt-ltb}
-use Rattle.word.specs.Word.{differenceOf, cellOf}
-use Rattle.word.specs.declared.Cell.the-variants.{At}
+use Rattle.word.specs.Word.{differenceOf, cellOf, At}
 use Rattle.machine.specs.declared.Ending.the-variants.{Halted}
 use Rattle.machine.specs.Entry.{ended, Shown, stateOf, runEntry}
 use Rattle.rule.specs.Table.{firstCell, bindingOf, built, entry, expAt, comAt, program}

@@ -9,14 +9,12 @@ use lib.Dec.{eqb}
 use lib.IntN.{ℤ, pos, _+ℤ_}
 use lib.ListN.{set}
 use borrow.Author.Tests.{lt-ltb, ne-eqb}
-use Rattle.word.specs.Word.{Word, signed, sumOf, addressOf}
-use Rattle.word.specs.declared.Cell.the-variants.{Nowhere}
+use Rattle.word.specs.Word.{Word, signed, sumOf, addressOf, Nowhere}
 use Rattle.word.proofs.Biased.{signed-low}
 use Rattle.word.proofs.Wraps.{sum-law}
 use Rattle.instruction.specs.Instruction.{Instruction, ins, found, fetch, countOf, halt, beq}
-use Rattle.machine.specs.declared.Next.the-variants.{Go, Fault}
 use Rattle.machine.specs.declared.Ending.the-variants.{Halted, Faulted}
-use Rattle.machine.specs.Step.{Did, did, readOf, writes, loads, jumpsTo, branches, perform, tried, stepOf}
+use Rattle.machine.specs.Step.{Go, Fault, Did, did, readOf, writes, loads, jumpsTo, branches, perform, tried, stepOf}
 use Rattle.machine.specs.Run.{ran, follow, runOf}
 
 -- Words

@@ -8,9 +8,7 @@ use native.Mathlib.Nat.{le-refl, le-trans, suc-add}
 use native.Mathlib.Omega.{arith}
 use lib.IntN.{ℤ}
 use lib.ListN.{length}
-use Rattle.word.specs.Word.{cellOf}
-use Rattle.word.specs.declared.Cell.{Cell}
-use Rattle.word.specs.declared.Cell.the-variants.{At, Nowhere}
+use Rattle.word.specs.Word.{cellOf, Cell, At, Nowhere}
 use Rattle.correctness.specs.Meaning.{Outcome, done, fault, out, leftOf, M, bind, _>>=_, return, spend, readCell, read, storeCell, store}
 
 -- y ends as x does, with d more left; of an x that is unfinished it says nothing

@@ -6,9 +6,7 @@ use Prim.Native.Nat.{ℕ, zero, suc}
 use lib.Dec.{eqb}
 use lib.IntN.{ℤ, pos, _+ℤ_}
 use lib.ListN.{length, getD, set}
-use Rattle.word.specs.Word.{signed, sumOf, differenceOf, productOf, lessOf, cellOf}
-use Rattle.word.specs.declared.Cell.{Cell}
-use Rattle.word.specs.declared.Cell.the-variants.{At, Nowhere}
+use Rattle.word.specs.Word.{signed, sumOf, differenceOf, productOf, lessOf, cellOf, Cell, At, Nowhere}
 use Rattle.rule.specs.Tree.{Op, plus, minus, times, less, equal, both, either}
 use Rattle.rule.specs.Tree.{Exp, value, ident, element, binary, negate}
 use Rattle.rule.specs.Tree.{Com, skip, assign, assignAt, sequence, choose, while}

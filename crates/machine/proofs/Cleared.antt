@@ -8,13 +8,9 @@ use lib.Dec.{eqb}
 use lib.ListN.{getD, set}
 use lib.Seq.{getD-set-other, set-getD, set-set, set-comm}
 use borrow.Author.Tests.{eqb-true, eqb-false}
-use Rattle.word.specs.Word.{sumOf, differenceOf, productOf, lessOf}
-use Rattle.word.specs.declared.Cell.{Cell}
-use Rattle.word.specs.declared.Cell.the-variants.{At, Nowhere}
+use Rattle.word.specs.Word.{sumOf, differenceOf, productOf, lessOf, Cell, At, Nowhere}
 use Rattle.instruction.specs.Instruction.{Instruction, ins, Fetched, outside, unknown, found, fetch, countOf}
-use Rattle.machine.specs.declared.Next.{Next}
-use Rattle.machine.specs.declared.Next.the-variants.{Go, Halt, Fault}
-use Rattle.machine.specs.Step.{Did, did, writes, loads, stores, branches, flagOf, readOf, cellAt, rules, perform, tried, stepOf}
+use Rattle.machine.specs.Step.{Next, Go, Halt, Fault, Did, did, writes, loads, stores, branches, flagOf, readOf, cellAt, rules, perform, tried, stepOf}
 use Rattle.machine.specs.Run.{Ran, ran, follow, runOf}
 use Rattle.machine.proofs.Spared.{IfFound, Spares, spares-other, step-kept, run-kept}
 

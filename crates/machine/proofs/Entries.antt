@@ -9,30 +9,29 @@ use lib.Dec.{eqb, leb}
 use lib.ListN.{length}
 use borrow.Author.Tests.{leb-true}
 use Rattle.machine.specs.declared.State.{State}
-use Rattle.machine.specs.declared.Next.{Next}
-use Rattle.machine.specs.declared.Next.the-variants.{Go, Halt, Fault}
 use Rattle.machine.specs.declared.Ending.{Ending}
 use Rattle.machine.specs.declared.Ending.the-variants.{Halted, Faulted, Unfinished}
 use Rattle.machine.specs.declared.Sizes.{Sizes}
 use Rattle.machine.specs.declared.Sizes.the-variants.{Fine, CodeWords, MemoryCells}
-use Rattle.machine.specs.Step.{Did, stepOf}
+use Rattle.machine.specs.Step.{Next, Go, Halt, Fault, Did, stepOf}
 use Rattle.machine.specs.Run.{Ran, follow, runOf}
 use Rattle.machine.proofs.Places.{run-place}
-use Rattle.machine.specs.Entry.{Said, refused, ended, went, halted, faulted, Shown, shown, sizesOf, entered, runShown, runEntry, stepShown, stepEntry}
+use Rattle.machine.specs.Entry.{Said, refused, ended, went, halted, faulted, Shown, shown, stateOf, sizesOf, entered, runShown, runEntry, stepShown, stepEntry}
 
 -- "13 comes before 14": code of a wrong size is refused whatever the memory
 pub thirteen-first : (w c : ℕ) → eqb (w % 4) 0 && leb w 262144 ≡ false → sizesOf w c ≡ CodeWords
 unfolding sizesOf
 thirteen-first w c h = rw h
 
-pub fine-words : (w c : ℕ) → sizesOf w c ≡ Fine → w ≤ 262144
+pub fine-sizes : (w c : ℕ) → sizesOf w c ≡ Fine → (w ≤ 262144) × (c ≤ 65536)
 unfolding sizesOf
-fine-words w c = go (eqb (w % 4) 0) (leb w 262144) refl (leb c 65536)
+fine-sizes w c = go (eqb (w % 4) 0) (leb w 262144) refl (leb c 65536) refl
   where
-    go : (r s : Bool) → leb w 262144 ≡ s → (t : Bool) → cond (r && s) (cond t Fine MemoryCells) CodeWords ≡ Fine → w ≤ 262144
-    go true true e t h = leb-true w 262144 e
-    go true false e t h = let z : _≡_ {A = ℕ} 0 1 = cc in absurd (omega arith)
-    go false s e t h = let z : _≡_ {A = ℕ} 0 1 = cc in absurd (omega arith)
+    go : (r s : Bool) → leb w 262144 ≡ s → (t : Bool) → leb c 65536 ≡ t → cond (r && s) (cond t Fine MemoryCells) CodeWords ≡ Fine → (w ≤ 262144) × (c ≤ 65536)
+    go true true e true f h = (leb-true w 262144 e, leb-true c 65536 f)
+    go true true e false f h = let z : _≡_ {A = ℕ} 0 1 = cc in absurd (omega arith)
+    go true false e t f h = let z : _≡_ {A = ℕ} 0 1 = cc in absurd (omega arith)
+    go false s e t f h = let z : _≡_ {A = ℕ} 0 1 = cc in absurd (omega arith)
 
 followed : (code : List ℕ) (k p : ℕ) → ((q : ℕ) (g m : List ℕ) → runOf code k q g m .left ≤ k) → (x : Next) (g m : List ℕ)
     → follow (runOf code k) k p x g m .left ≤ suc k
@@ -63,22 +62,28 @@ asStep (faulted f) = faulted f
 abbrev pub asStepped : Shown → Shown
 asStepped x = shown (asStep (x .said)) (x .state) (x .memory)
 
-pub step-is-run : (code m : List ℕ) (s : State) → stepEntry code m s ≡ asStepped (runEntry code m s 1)
-unfolding stepEntry runEntry runOf
-step-is-run code m s =
-    let d : Did = stepOf code (s .place) (s .registers) m in
-    let x : Sizes = sizesOf (length code) (length m) in
-    ap (λ (y : Shown). entered x y s m) (one (d .next) (d .registers) (d .memory)) ∙ within x (runShown 1 (follow (runOf code 0) 0 (s .place) (d .next) (d .registers) (d .memory)))
-  where
-    one : (x : Next) (g m′ : List ℕ) → stepShown (s .place) x g m′ ≡ asStepped (runShown 1 (follow (runOf code 0) 0 (s .place) x g m′))
-    one (Go q) g m′ = refl
-    one Halt g m′ = refl
-    one (Fault f) g m′ = refl
+-- what holds of a refusal, and of each way that a step can go beside the run under the budget 1, holds of the two entries
+module _ (P : Shown → Shown → Type 0)
+    (refuses : (n : ℕ) (s : State) (m : List ℕ) → P (shown (refused n 0) s m) (shown (refused n 0) s m))
+    (goes : (s : State) (m : List ℕ) → P (shown went s m) (shown (ended Unfinished 1) s m))
+    (halts : (s : State) (m : List ℕ) → P (shown halted s m) (shown (ended Halted 1) s m))
+    (faults : (f : ℕ) (s : State) (m : List ℕ) → P (shown (faulted f) s m) (shown (ended (Faulted f) 0) s m)) where
+  pub step-beside-run : (code m : List ℕ) (s : State) → P (stepEntry code m s) (runEntry code m s 1)
+  unfolding stepEntry runEntry runOf
+  step-beside-run code m s =
+      let d : Did = stepOf code (s .place) (s .registers) m in
+      within (sizesOf (length code) (length m)) (d .next) (d .registers) (d .memory)
+    where
+      within : (x : Sizes) (y : Next) (g m′ : List ℕ)
+          → P (entered x (stepShown (s .place) y g m′) s m) (entered x (runShown 1 (follow (runOf code 0) 0 (s .place) y g m′)) s m)
+      within Fine (Go q) g m′ = goes (stateOf q g) m′
+      within Fine Halt g m′ = halts (stateOf (s .place) g) m′
+      within Fine (Fault f) g m′ = faults f (stateOf (s .place) g) m′
+      within CodeWords y g m′ = refuses 13 s m
+      within MemoryCells y g m′ = refuses 14 s m
 
-    within : (x : Sizes) (y : Shown) → entered x (asStepped y) s m ≡ asStepped (entered x y s m)
-    within Fine y = refl
-    within CodeWords y = refl
-    within MemoryCells y = refl
+pub step-is-run : (code m : List ℕ) (s : State) → stepEntry code m s ≡ asStepped (runEntry code m s 1)
+step-is-run = step-beside-run (λ (x y : Shown). x ≡ asStepped y) (λ n s m. refl) (λ s m. refl) (λ s m. refl) (λ f s m. refl)
 
 pub as-step : (code m : List ℕ) (s : State) {x : Shown} → x ≡ runEntry code m s 1 → asStepped x ≡ stepEntry code m s
 as-step code m s e = ap asStepped e ∙ sym (step-is-run code m s)

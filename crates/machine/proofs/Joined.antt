@@ -4,10 +4,8 @@ use Prim.Native.Nat.{ℕ, zero, suc, _+_}
 use mathlib.Core.Path.{_≡_}
 use mathlib.Core.List.{List}
 use native.Mathlib.Omega.{arith}
-use Rattle.machine.specs.declared.Next.{Next}
-use Rattle.machine.specs.declared.Next.the-variants.{Go, Halt, Fault}
 use Rattle.machine.specs.declared.Ending.the-variants.{Unfinished}
-use Rattle.machine.specs.Step.{Did, stepOf}
+use Rattle.machine.specs.Step.{Next, Go, Halt, Fault, Did, stepOf}
 use Rattle.machine.specs.Run.{Ran, follow, runOf}
 
 -- a run that goes on from where another ended

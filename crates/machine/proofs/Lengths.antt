@@ -4,11 +4,9 @@ use mathlib.Core.Path.{_≡_, refl}
 use mathlib.Core.List.{List}
 use Prim.Native.Nat.{ℕ}
 use lib.ListN.{length, length-set}
-use Rattle.word.specs.declared.Cell.{Cell}
-use Rattle.word.specs.declared.Cell.the-variants.{At, Nowhere}
+use Rattle.word.specs.Word.{Cell, At, Nowhere}
 use Rattle.instruction.specs.Instruction.{Instruction, ins, Fetched, outside, unknown, found, fetch, countOf}
-use Rattle.machine.specs.declared.Next.the-variants.{Fault}
-use Rattle.machine.specs.Step.{Did, did, loads, stores, readOf, cellAt, rules, perform, tried, stepOf}
+use Rattle.machine.specs.Step.{Fault, Did, did, loads, stores, readOf, cellAt, rules, perform, tried, stepOf}
 use Rattle.machine.proofs.Places.{All, looked-up}
 
 module _ (n p : ℕ) (g m : List ℕ) where

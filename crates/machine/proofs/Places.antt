@@ -8,15 +8,14 @@ use native.Mathlib.Omega.{arith}
 use lib.Dec.{ltb, eqb}
 use lib.ListN.{getD}
 use borrow.Author.Tests.{ltb-true}
-use Rattle.word.specs.declared.Cell.{Cell}
-use Rattle.word.specs.declared.Cell.the-variants.{At, Nowhere}
+use Rattle.word.specs.Word.{Cell, At, Nowhere}
 use Rattle.instruction.specs.Instruction.{Instruction, ins, Fetched, outside, unknown, found, decode, fetch, countOf}
-use Rattle.machine.specs.declared.Next.{Next}
-use Rattle.machine.specs.declared.Next.the-variants.{Go, Halt, Fault}
-use Rattle.machine.specs.Step.{Did, did, loads, stores, jumpsTo, branches, rules, perform, tried, stepOf, cellAt, readOf}
+use Rattle.machine.specs.declared.Move.{Move}
+use Rattle.machine.specs.declared.Move.the-variants as Move
+use Rattle.machine.specs.Step.{Next, Go, Halt, Fault, Did, moved, did, loads, stores, jumpsTo, branches, rules, perform, tried, stepOf, cellAt, readOf}
 use Rattle.machine.specs.Run.{follow, runOf}
 
-abbrev Within : ℕ → Next → Type 0
+abbrev pub Within : ℕ → Next → Type 0
 Within n (Go q) = q ≤ n
 Within n Halt = Unit {0}
 Within n (Fault f) = Unit {0}
@@ -117,6 +116,12 @@ step-within code p g m = go (ltb p (countOf code)) refl
         (tried (countOf code) p g m (cond t (decode (getD code (p * 4) 0) (getD code (p * 4 + 1) 0) (getD code (p * 4 + 2) 0) (getD code (p * 4 + 3) 0)) outside) .next)
     go true e = at (decode (getD code (p * 4) 0) (getD code (p * 4 + 1) 0) (getD code (p * 4 + 2) 0) (getD code (p * 4 + 3) 0)) (ltb-true _ _ e)
     go false e = tt
+
+-- a jump leads into the code
+pub step-to : (code : List ℕ) (p q : ℕ) (g m g′ m′ : List ℕ) (x : Move) → did (moved p x) g′ m′ ≡ stepOf code p g m → x ≡ Move.To q → q ≤ countOf code
+step-to code p q g m g′ m′ x h e =
+    let w : Within (countOf code) (did (moved p x) g′ m′ .next) = subst (λ (d : Did). Within (countOf code) (d .next)) (sym h) (step-within code p g m) in
+    rw e at w
 
 -- a run's place is no further than where it began, or the number of instructions
 module _ (code : List ℕ) (most : ℕ) (few : countOf code ≤ most) where

@@ -4,10 +4,10 @@ use mathlib.Core.Path.{_≡_, refl}
 use mathlib.Core.List.{List}
 use Prim.Native.Nat.{ℕ, zero, suc, _-_, _<_, _≤_}
 use native.Mathlib.Omega.{arith}
-use Rattle.machine.specs.declared.Next.{Next}
-use Rattle.machine.specs.declared.Next.the-variants.{Go, Halt, Fault}
 use Rattle.machine.specs.declared.Ending.the-variants.{Halted, Faulted, Unfinished}
-use Rattle.machine.specs.Step.{did, stepOf}
+use borrow.Author.Tests.{le-ltb}
+use Rattle.instruction.specs.Instruction.{fetch, countOf}
+use Rattle.machine.specs.Step.{Next, Go, Halt, Fault, did, tried, stepOf}
 use Rattle.machine.specs.Run.{ran, runOf}
 
 module _ (code : List ℕ) (p : ℕ) (g m g′ m′ : List ℕ) (x : Next) (h : did x g′ m′ ≡ stepOf code p g m) where
@@ -30,3 +30,7 @@ pub run-out : (code : List ℕ) (p : ℕ) (g m : List ℕ) (k : ℕ) → k ≤ 0
 unfolding runOf
 run-out code p g m zero lt = refl
 run-out code p g m (suc k) lt = absurd (omega arith)
+
+pub step-outside : (code : List ℕ) (p : ℕ) (g m : List ℕ) → countOf code ≤ p → did (Fault 1) g m ≡ stepOf code p g m
+unfolding stepOf fetch tried
+step-outside code p g m h = rw (le-ltb _ _ h)

@@ -6,12 +6,10 @@ use Prim.Native.Nat.{ℕ, zero, suc, _-_, _≤_}
 use native.Mathlib.Omega.{arith}
 use lib.ListN.{length}
 use Rattle.machine.specs.declared.State.{State}
-use Rattle.machine.specs.declared.Next.{Next}
-use Rattle.machine.specs.declared.Next.the-variants.{Go, Halt, Fault}
 use Rattle.machine.specs.declared.Ending.the-variants.{Halted, Faulted}
 use Rattle.machine.specs.declared.Sizes.{Sizes}
 use Rattle.machine.specs.declared.Sizes.the-variants.{Fine, CodeWords, MemoryCells}
-use Rattle.machine.specs.Step.{Did, stepOf}
+use Rattle.machine.specs.Step.{Next, Go, Halt, Fault, Did, stepOf}
 use Rattle.machine.specs.Run.{Ran, follow, runOf}
 use Rattle.machine.specs.Entry.{ended, Shown, shown, stateOf, sizesOf, entered, runShown, runEntry, stepShown, stepEntry}
 use Rattle.machine.specs.Single.{counted, onward, singly}

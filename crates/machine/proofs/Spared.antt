@@ -8,15 +8,12 @@ use lib.Dec.{eqb}
 use lib.ListN.{length, getD, set}
 use lib.Seq.{getD-set-other}
 use borrow.Author.Tests.{eqb-false}
-use Rattle.word.specs.declared.Cell.{Cell}
-use Rattle.word.specs.declared.Cell.the-variants.{At, Nowhere}
+use Rattle.word.specs.Word.{Cell, At, Nowhere}
 use Rattle.instruction.specs.Instruction.{Instruction, ins, jmp, Fetched, outside, unknown, found, fetch, countOf}
 use Rattle.machine.specs.declared.State.{State}
-use Rattle.machine.specs.declared.Next.{Next}
-use Rattle.machine.specs.declared.Next.the-variants.{Go, Halt, Fault}
 use Rattle.machine.specs.declared.Sizes.{Sizes}
 use Rattle.machine.specs.declared.Sizes.the-variants.{Fine, CodeWords, MemoryCells}
-use Rattle.machine.specs.Step.{Did, did, wroteRegisters, loads, stores, readOf, cellAt, rules, perform, tried, stepOf}
+use Rattle.machine.specs.Step.{Next, Go, Halt, Fault, Did, did, wroteRegisters, loads, stores, readOf, cellAt, rules, perform, tried, stepOf}
 use Rattle.machine.specs.Run.{follow, runOf}
 use Rattle.machine.specs.Entry.{Shown, sizesOf, entered, runShown, runEntry}
 use Rattle.machine.proofs.Places.{All, looked-up}

@@ -1,12 +1,10 @@
 -- What the two entry points answer, in the paper's numbers. 01-scope.md, "The machine" and "Numbered refusals".
-use mathlib.Core.Bool.{Bool, cond, _&&_}
+use mathlib.Core.Bool.{cond, _&&_}
 use mathlib.Core.List.{List}
 use Prim.Native.Nat.{ℕ, _-_, _%_}
 use lib.Dec.{eqb, leb}
 use lib.ListN.{length}
 use Rattle.machine.specs.declared.State.{State}
-use Rattle.machine.specs.declared.Next.{Next}
-use Rattle.machine.specs.declared.Next.the-variants.{Go, Halt, Fault}
 use Rattle.machine.specs.declared.Ending.{Ending}
 use Rattle.machine.specs.declared.Sizes.{Sizes}
 use Rattle.machine.specs.declared.Sizes.the-variants.{Fine, CodeWords, MemoryCells}
@@ -14,7 +12,7 @@ use Rattle.machine.specs.declared.RunAnswer.{RunAnswer}
 use Rattle.machine.specs.declared.RunAnswer.the-variants as RunAnswer
 use Rattle.machine.specs.declared.StepAnswer.{StepAnswer}
 use Rattle.machine.specs.declared.StepAnswer.the-variants as StepAnswer
-use Rattle.machine.specs.Step.{Did, stepOf}
+use Rattle.machine.specs.Step.{Next, Go, Halt, Fault, Did, stepOf}
 use Rattle.machine.specs.Run.{Ran, runOf}
 
 -- what is said: a refusal's number with the number returned, an ending with the steps taken, or how a single step went

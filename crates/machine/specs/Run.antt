@@ -1,11 +1,9 @@
 -- A run: steps while budget is left. 01-scope.md, "The machine".
 use mathlib.Core.List.{List}
 use Prim.Native.Nat.{ℕ, zero, suc}
-use Rattle.machine.specs.declared.Next.{Next}
-use Rattle.machine.specs.declared.Next.the-variants.{Go, Halt, Fault}
 use Rattle.machine.specs.declared.Ending.{Ending}
 use Rattle.machine.specs.declared.Ending.the-variants.{Halted, Faulted, Unfinished}
-use Rattle.machine.specs.Step.{Did, stepOf}
+use Rattle.machine.specs.Step.{Next, Go, Halt, Fault, Did, stepOf}
 
 -- an ending, the budget that is left, and the state and the memory that are left
 pub record Ran : Type 0 where

@@ -2,9 +2,10 @@
 mod operation;
 
 ghost use mathlib.Core.Path.{_≡_};
-ghost use Prim.Native.Nat.{_≤_};
+ghost use Prim.Native.Nat.{_≤_, _<_, min};
 ghost use lib.ListN.{length, getD};
-ghost use Rattle.machine.specs.Step.{did, stepOf};
+ghost use Rattle.instruction.specs.Instruction.{countOf};
+ghost use Rattle.machine.specs.Step.{moved, did, stepOf};
 ghost use Rattle.machine.specs.Run.{ran, runOf};
 ghost use Rattle.machine.specs.Entry.{shown, stateOf, sizesOf, runSaid, stepSaid, runEntry, stepEntry};
 
@@ -14,9 +15,10 @@ pub struct State {
     pub registers: [u32; 64],
 }
 
-// What one instruction leads to.
-pub enum Next {
-    Go(usize),
+// What one instruction leads to: on to the next place, to another one, a halt or a fault.
+enum Move {
+    On,
+    To(usize),
     Halt,
     Fault(u32),
 }
@@ -70,61 +72,75 @@ pub struct Stepped {
     pub state: State,
 }
 
-// One step from a place.
-fn advance(code: &[u32], place: usize, g: &mut [u32; 64], m: &mut [u32]) -> Next
-    requires { ⌜ (length (now code) ≤ 262144) × (getD (now g) 0 0 ≡ 0) ⌝ }
-    ensures { λ r. ⌜ did r (now (g .exit)) (now (m .exit)) ≡ stepOf (now (code .entry)) place (now (g .entry)) (now (m .entry)) ⌝ }
+// One step from a place of the code.
+fn advance(code: &[u32], place: usize, g: &mut [u32; 64], m: &mut [u32]) -> Move
+    requires { ⌜ (length (now code) ≤ 262144) × (getD (now g) 0 0 ≡ 0) × (length (now m) ≤ 65536) × (place < countOf (now code)) ⌝ }
+    ensures { λ r. ⌜ did (moved place r) (now (g .exit)) (now (m .exit)) ≡ stepOf (now (code .entry)) place (now (g .entry)) (now (m .entry)) ⌝ }
 {
-    let count = code.len() / 4;
-    if count <= place {
-        return Next::Fault(1);
-    }
     let at = place * 4;
     let op = code[at];
     let a = code[at + 1];
     let b = code[at + 2];
     let c = code[at + 3];
     if instruction::formed(op, a, b, c) {
-        return operation::perform(count, place, g, m, op, a, b, c);
+        return operation::perform(code.len() / 4, g, m, op, a, b, c);
     }
-    Next::Fault(2)
+    Move::Fault(2)
+}
+
+// The smaller of two numbers.
+fn smaller(a: usize, b: usize) -> usize
+    ensures { λ r. ⌜ r ≡ min a b ⌝ }
+{
+    if a < b { a } else { b }
+}
+
+// The ending of a run that has so much budget left, at a place.
+fn stopped(ending: Ending, left: usize, place: usize) -> Ended
+    requires { ⌜ left < 4294967296 ⌝ }
+    ensures { λ r. ⌜ (r .ending ≡ ending) × (r .left ≡ left) × (r .place ≡ place) ⌝ }
+{
+    Ended {
+        ending: ending,
+        left: left as u32,
+        place: place,
+    }
 }
 
 // A run from a place under a budget: the one caller of `advance`, so that the step is part of the loop.
+// The budget that is left is limit - place, so that a step on to the next place changes the place alone; a jump takes the limit along.
+// The loop stops at the limit or at the end of the code, whichever comes first.
 fn proceed(code: &[u32], from: usize, g: &mut [u32; 64], m: &mut [u32], budget: u32) -> Ended
-    requires { ⌜ (length (now code) ≤ 262144) × (getD (now g) 0 0 ≡ 0) ⌝ }
+    requires { ⌜ (length (now code) ≤ 262144) × (getD (now g) 0 0 ≡ 0) × (length (now m) ≤ 65536) × (from < 4294967296) ⌝ }
     ensures { λ r. ⌜ ran (r .ending) (r .left) (r .place) (now (g .exit)) (now (m .exit)) ≡ runOf (now (code .entry)) budget from (now (g .entry)) (now (m .entry)) ⌝ }
 {
+    let count = code.len() / 4;
     let mut place = from;
-    let mut left = budget;
-    while 0 < left {
+    let mut limit = from + budget as usize;
+    let mut stop = smaller(count, limit);
+    while place < stop {
         let next = advance(code, place, g, m);
         match next {
-            Next::Go(p) => {
+            Move::On => {
+                place = place + 1;
+            }
+            Move::To(p) => {
+                limit = p + (limit - place - 1);
                 place = p;
-                left = left - 1;
+                stop = smaller(count, limit);
             }
-            Next::Halt => {
-                return Ended {
-                    ending: Ending::Halted,
-                    left: left - 1,
-                    place: place,
-                };
+            Move::Halt => {
+                return stopped(Ending::Halted, limit - place - 1, place);
             }
-            Next::Fault(f) => {
-                return Ended {
-                    ending: Ending::Faulted(f),
-                    left: left,
-                    place: place,
-                };
+            Move::Fault(f) => {
+                return stopped(Ending::Faulted(f), limit - place, place);
             }
         }
     }
-    Ended {
-        ending: Ending::Unfinished,
-        left: 0,
-        place: place,
+    if place < limit {
+        return stopped(Ending::Faulted(1), limit - place, place);
     }
+    stopped(Ending::Unfinished, 0, place)
 }
 
 // Whether code of so many words and memory of so many cells are taken.

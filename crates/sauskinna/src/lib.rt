@@ -2,7 +2,6 @@
 use compiler::CompileAnswer;
 use machine::Ending;
 use machine::RunAnswer;
-use machine::StepAnswer;
 ghost use mathlib.Core.Path.{_≡_};
 ghost use mathlib.Core.List.{[], _∷_};
 ghost use lib.ListN.{length};
@@ -12,6 +11,15 @@ ghost use Rattle.sauskinna.specs.Words.{compileReturned, compileAnswered
 
 // First number × 1,000 + second: the first is raised where an answer changes, the second where a function is added.
 const VERSION: u32 = 1000;
+
+// How a step or a run ended: the first word of its answer.
+const WENT_ON: u32 = 0;
+
+const HALTED: u32 = 1;
+
+const FAULTED: u32 = 2;
+
+const UNFINISHED: u32 = 3;
 
 // Stores the three words of an answer, and gives the number to return.
 fn tell(answer: &mut [u32; 3], a: u32, b: u32, c: u32, number: u32) -> u32
@@ -42,27 +50,6 @@ pub extern "C" fn sauskinna_compile(
     }
 }
 
-// Takes a single step from the place and the registers lent. Answers how it went, the fault's number or 0, and the steps taken.
-#[no_mangle]
-pub extern "C" fn sauskinna_step(
-    code: &[u32],
-    memory: &mut [u32],
-    place: &mut u32,
-    registers: &mut [u32; 64],
-    answer: &mut [u32; 3],
-) -> u32
-    ensures { λ r. ⌜ left r (now (answer .exit)) (stateOf (now (place .exit)) (now (registers .exit))) (now (memory .exit)) ≡ inWords (stepEntry (now (code .entry)) (now (memory .entry)) (stateOf (now (place .entry)) (now (registers .entry)))) ⌝ }
-{
-    let said = machine::step_in_place(code, memory, place, registers);
-    match said {
-        StepAnswer::CodeRefused => tell(answer, 0, 0, 0, 13),
-        StepAnswer::MemoryRefused => tell(answer, 0, 0, 0, 14),
-        StepAnswer::Went => tell(answer, 0, 0, 1, 0),
-        StepAnswer::Halted => tell(answer, 1, 0, 1, 0),
-        StepAnswer::Faulted(fault) => tell(answer, 2, fault, 0, 0),
-    }
-}
-
 // Runs from the place and the registers lent, under a budget. Answers the ending, the fault's number or 0, and the steps taken.
 #[no_mangle]
 pub extern "C" fn sauskinna_run(
@@ -80,11 +67,30 @@ pub extern "C" fn sauskinna_run(
         RunAnswer::CodeRefused => tell(answer, 0, 0, 0, 13),
         RunAnswer::MemoryRefused => tell(answer, 0, 0, 0, 14),
         RunAnswer::Ended(ending, steps) => match ending {
-            Ending::Halted => tell(answer, 1, 0, steps, 0),
-            Ending::Faulted(fault) => tell(answer, 2, fault, steps, 0),
-            Ending::Unfinished => tell(answer, 3, 0, steps, 0),
+            Ending::Halted => tell(answer, HALTED, 0, steps, 0),
+            Ending::Faulted(fault) => tell(answer, FAULTED, fault, steps, 0),
+            Ending::Unfinished => tell(answer, UNFINISHED, 0, steps, 0),
         },
     }
+}
+
+// Takes a single step from the place and the registers lent. Answers how it went, the fault's number or 0, and the steps taken.
+// A step is a run under the budget 1, and went on where that is unfinished. The machine's run has one caller, so that it is part of `sauskinna_run`.
+#[no_mangle]
+pub extern "C" fn sauskinna_step(
+    code: &[u32],
+    memory: &mut [u32],
+    place: &mut u32,
+    registers: &mut [u32; 64],
+    answer: &mut [u32; 3],
+) -> u32
+    ensures { λ r. ⌜ left r (now (answer .exit)) (stateOf (now (place .exit)) (now (registers .exit))) (now (memory .exit)) ≡ inWords (stepEntry (now (code .entry)) (now (memory .entry)) (stateOf (now (place .entry)) (now (registers .entry)))) ⌝ }
+{
+    let number = sauskinna_run(code, memory, place, registers, 1, answer);
+    if answer[0] == UNFINISHED {
+        answer[0] = WENT_ON;
+    }
+    number
 }
 
 // The version of the library.

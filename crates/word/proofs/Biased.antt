@@ -1,18 +1,32 @@
 -- A word with 2^31 added, wrapped: its order is that of the signed numbers, and its sums give the exact address.
 use Prim.Native.Nat.{ℕ, suc, _+_, _-_, _%_, _<_, _≤_}
-use mathlib.Core.Path.{_≡_, refl, sym, _∙_, ap}
+use mathlib.Core.Path.{_≡_, refl, sym, _∙_, ap, subst}
 use mathlib.Core.Bool.{Bool, true, false, cond}
 use native.Mathlib.Omega.{arith}
 use lib.Dec.{ltb}
 use lib.IntN.{ℤ, pos, negsuc, subℕ, _+ℤ_}
 use borrow.Author.Tests.{lt-ltb, le-ltb, ltb-true, ltb-false}
-use Rattle.word.specs.Word.{signed, lessOf, addressOf, cellOf}
-use Rattle.word.specs.declared.Cell.{Cell}
-use Rattle.word.specs.declared.Cell.the-variants.{At, Nowhere}
+use Rattle.word.specs.Word.{signed, lessOf, addressOf, cellOf, Cell, At, Nowhere}
 
 -- a word with 2^31 added, wrapped: 0 for the least signed number
 abbrev pub biased : ℕ → ℕ
 biased a = (a + 2147483648) % 4294967296
+
+-- the signed number in 64 bits, wrapped: 2^31 less than the biased word
+abbrev pub long : ℕ → ℕ
+long a = (biased a + 18446744071562067968) % 18446744073709551616
+
+-- the sum of two such numbers, of the biased words x and y, is the exact one
+module _ (x y s : ℕ) (hx : x < 4294967296) (hy : y < 4294967296) (sum : s ≡ ((x + 18446744071562067968) % 18446744073709551616 + (y + 18446744071562067968) % 18446744073709551616) % 18446744073709551616) where
+  long-sum : 4294967296 ≤ x + y → s ≡ x + y - 4294967296
+  long-sum h = omega arith
+
+  long-negative : x + y < 4294967296 → s ≡ x + y + 18446744069414584320
+  long-negative h = omega arith
+
+-- and a negative one is past every memory
+no-cell : (z s size : ℕ) → size ≤ 65536 → s ≡ z + 18446744069414584320 → s < size → ⊥
+no-cell z s size few e h = omega arith
 
 -- two tests agree where each one's fact gives the other's
 pub ltb-same : (x y a b : ℕ) → (x < y → a < b) → (a < b → x < y) → ltb x y ≡ ltb a b
@@ -89,23 +103,49 @@ address-law a b ha hb = go (ltb a 2147483648) refl (ltb b 2147483648) refl
         let h = ltb-false a _ p in let k = ltb-false b _ q in
         rw (signed-high a p, signed-high b q, lt-ltb (biased a + biased b) 4294967296 (omega arith)) (ap negsuc (omega arith))
 
--- what an address sum leads to, by the biased words x and y of a and b
-module _ (a b size x y : ℕ) (ha : a < 4294967296) (hb : b < 4294967296) (hx : x ≡ biased a) (hy : y ≡ biased b) where
-  tied : addressOf a b ≡ subℕ (x + y) 4294967296
+-- what an address sum leads to, by the biased words
+module _ (a b size : ℕ) (ha : a < 4294967296) (hb : b < 4294967296) where
+  tied : addressOf a b ≡ subℕ (biased a + biased b) 4294967296
   unfolding addressOf
-  tied = rw (hx, hy) (address-law a b ha hb)
+  tied = address-law a b ha hb
 
-  pub cell-below : x + y < 4294967296 → Nowhere ≡ cellOf (addressOf a b) size
+  cell-below : biased a + biased b < 4294967296 → Nowhere ≡ cellOf (addressOf a b) size
   unfolding cellOf
-  cell-below h = rw (tied, lt-ltb (x + y) 4294967296 h)
+  cell-below h = rw (tied, lt-ltb (biased a + biased b) 4294967296 h)
 
-  pub cell-in : 4294967296 ≤ x + y → x + y - 4294967296 < size → At (x + y - 4294967296) ≡ cellOf (addressOf a b) size
+  cell-in : 4294967296 ≤ biased a + biased b → biased a + biased b - 4294967296 < size → At (biased a + biased b - 4294967296) ≡ cellOf (addressOf a b) size
   unfolding cellOf
-  cell-in h k = rw (tied, le-ltb (x + y) 4294967296 h, lt-ltb (x + y - 4294967296) size k)
+  cell-in h k = rw (tied, le-ltb (biased a + biased b) 4294967296 h, lt-ltb (biased a + biased b - 4294967296) size k)
 
-  pub cell-past : 4294967296 ≤ x + y → size ≤ x + y - 4294967296 → Nowhere ≡ cellOf (addressOf a b) size
+  cell-past : 4294967296 ≤ biased a + biased b → size ≤ biased a + biased b - 4294967296 → Nowhere ≡ cellOf (addressOf a b) size
   unfolding cellOf
-  cell-past h k = rw (tied, le-ltb (x + y) 4294967296 h, le-ltb (x + y - 4294967296) size k)
+  cell-past h k = rw (tied, le-ltb (biased a + biased b) 4294967296 h, le-ltb (biased a + biased b - 4294967296) size k)
+
+  -- the sum in 64 bits is the exact address, or past every memory where that is negative
+  module _ (s : ℕ) (few : size ≤ 65536) (sum : s ≡ (long a + long b) % 18446744073709551616) where
+    abbrev exactly : 4294967296 ≤ biased a + biased b → s ≡ biased a + biased b - 4294967296
+    exactly = long-sum (biased a) (biased b) s (omega arith) (omega arith) sum
+
+    abbrev negatively : biased a + biased b < 4294967296 → s ≡ biased a + biased b + 18446744069414584320
+    negatively = long-negative (biased a) (biased b) s (omega arith) (omega arith) sum
+
+    pub long-inside : s < size → At s ≡ cellOf (addressOf a b) size
+    long-inside h = go (ltb (biased a + biased b) 4294967296) refl
+      where
+        go : (t : Bool) → ltb (biased a + biased b) 4294967296 ≡ t → At s ≡ cellOf (addressOf a b) size
+        go true e = absurd (no-cell (biased a + biased b) s size few (negatively (ltb-true _ _ e)) h)
+        go false e =
+            let k = ltb-false (biased a + biased b) 4294967296 e in
+            ap At (exactly k) ∙ cell-in k (subst (λ (n : ℕ). n < size) (exactly k) h)
+
+    pub long-outside : size ≤ s → Nowhere ≡ cellOf (addressOf a b) size
+    long-outside h = go (ltb (biased a + biased b) 4294967296) refl
+      where
+        go : (t : Bool) → ltb (biased a + biased b) 4294967296 ≡ t → Nowhere ≡ cellOf (addressOf a b) size
+        go true e = cell-below (ltb-true _ _ e)
+        go false e =
+            let k = ltb-false (biased a + biased b) 4294967296 e in
+            cell-past k (subst (λ (n : ℕ). size ≤ n) (exactly k) h)
 
 -- a cell that an address leads to is one of the memory's
 pub cell-within : (z : ℤ) (size : ℕ) {o : Cell} {k : ℕ} → o ≡ cellOf z size → o ≡ At k → k < size

@@ -3,8 +3,7 @@
 use mathlib.Core.Path.{_≡_, sym, _∙_}
 use mathlib.Core.Bool.{Bool}
 use Prim.Native.Nat.{ℕ}
-use Rattle.word.specs.declared.Cell.{Cell}
-use Rattle.word.specs.Word.{sumOf, differenceOf, productOf, lessOf, addressOf, cellOf}
+use Rattle.word.specs.Word.{sumOf, differenceOf, productOf, lessOf}
 
 module _ (a b : ℕ) where
   pub one-sum : (r s : ℕ) → r ≡ sumOf a b → s ≡ sumOf a b → r ≡ s
@@ -18,6 +17,3 @@ module _ (a b : ℕ) where
 
   pub one-less : (r s : Bool) → r ≡ lessOf a b → s ≡ lessOf a b → r ≡ s
   one-less r s p q = p ∙ sym q
-
-pub one-cell-at : (base index size : ℕ) (r s : Cell) → r ≡ cellOf (addressOf base index) size → s ≡ cellOf (addressOf base index) size → r ≡ s
-one-cell-at base index size r s p q = p ∙ sym q

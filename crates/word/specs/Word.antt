@@ -6,8 +6,6 @@ use Prim.Native.Nat.{ℕ, _-_, _%_, _<_}
 use lib.Dec.{ltb}
 use lib.IntN.{ℤ, pos, negsuc, _+ℤ_, _-ℤ_, _*ℤ_}
 use lib.Signed.{ltZ, _≤ℤ_}
-use Rattle.word.specs.declared.Cell.{Cell}
-use Rattle.word.specs.declared.Cell.the-variants.{At, Nowhere}
 
 abbrev pub Word : ℕ → Type 0
 Word a = a < 4294967296
@@ -45,6 +43,11 @@ productOf a b = wordOf (signed a *ℤ signed b)
 -- "Comparison is signed."
 unfoldable pub lessOf : ℕ → ℕ → Bool
 lessOf a b = ltZ (signed a) (signed b)
+
+-- what an address leads to: a cell of the memory, or none
+pub data Cell : Type 0 where
+  At : ℕ → Cell
+  Nowhere : Cell
 
 -- the cell at an exact address, in a memory of size cells
 unfoldable pub cellOf : ℤ → ℕ → Cell

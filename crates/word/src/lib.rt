@@ -1,12 +1,6 @@
-// Words: 32-bit numbers read as signed numbers, with wrapping sum, difference and product, signed order, and the cell that an exact address names.
+// Words: 32-bit numbers read as signed numbers, with wrapping sum, difference and product, and signed order.
 ghost use mathlib.Core.Path.{_≡_};
-ghost use Rattle.word.specs.Word.{sumOf, differenceOf, productOf, lessOf, addressOf, cellOf};
-
-// What an address leads to: a cell of the memory, or none.
-pub enum Cell {
-    At(usize),
-    Nowhere,
-}
+ghost use Rattle.word.specs.Word.{sumOf, differenceOf, productOf, lessOf};
 
 // a + b, wrapped.
 pub fn sum(a: u32, b: u32) -> u32
@@ -34,22 +28,4 @@ pub fn less(a: u32, b: u32) -> bool
     ensures { λ r. ⌜ r ≡ lessOf a b ⌝ }
 {
     std::num::wrapping_add_u32(a, 2147483648) < std::num::wrapping_add_u32(b, 2147483648)
-}
-
-// The cell that base plus index names, as an exact sum, in a memory of size cells.
-pub fn cell_at(base: u32, index: u32, size: usize) -> Cell
-    ensures { λ r. ⌜ r ≡ cellOf (addressOf base index) size ⌝ }
-{
-    let b = std::num::wrapping_add_u32(base, 2147483648) as u64;
-    let i = std::num::wrapping_add_u32(index, 2147483648) as u64;
-    let t = b + i;
-    if t < 4294967296 {
-        return Cell::Nowhere;
-    }
-    let at = (t - 4294967296) as usize;
-    if at < size {
-        Cell::At(at)
-    } else {
-        Cell::Nowhere
-    }
 }

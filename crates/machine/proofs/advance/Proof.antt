@@ -1,7 +1,6 @@
 -- `advance`: the place, then the form, then the instruction's rule.
 -- Assumes nothing.
-use borrow.Author.Tests.{lt-ltb, le-ltb}
-use native.Mathlib.Omega.{arith}
+use borrow.Author.Tests.{lt-ltb}
 use mathlib.Core.Path.{_∙_, sym}
 use Rattle.instruction.proofs.Forms.{decode-back, decode-none}
 use Rattle.instruction.specs.Instruction.{fetch}
@@ -9,10 +8,6 @@ use Rattle.machine.specs.Step.{stepOf, tried}
 use borrow.Author.Needs.{needs}
 use Rattle.machine.proofs.advance.Statement.{statement}
 use Rattle.machine.proofs.advance.Tie as tie
-
-returns : tie.Need-returns
-unfolding stepOf fetch tried
-returns c = rw (le-ltb _ _ (c .if1 .taken))
 
 mul-at : tie.Need-mul-at
 mul-at c = search needs
@@ -54,24 +49,23 @@ formed-requires : tie.Need-formed-requires
 formed-requires c κs = search needs
 
 perform-requires : tie.Need-perform-requires
-perform-requires c κs = (sym (c .before .before .before .formed .ensures) ∙ c .before .before .if2 .taken, omega (arith, c .before .before .before .before .before .before .before .before .if1 .left, c .before .before .before .before .before .before .before .before .before .before .before .pre .0), c .before .before .before .before .before .before .before .before .before .before .before .pre .1)
+perform-requires c κs = (sym (c .before .before .before .formed .ensures) ∙ c .before .before .if1 .taken, c .before .before .before .before .before .before .before .before .before .before .pre .1, c .before .before .before .before .before .before .before .before .before .before .pre .2)
 
 same-length : tie.Need-same-length
 same-length c = search needs
 
+returns : tie.Need-returns
+unfolding stepOf fetch tried
+returns c = rw (lt-ltb _ _ (c .before .before .before .before .before .before .before .before .before .before .before .before .before .pre .3), decode-back _ _ _ _ (sym (c .before .before .before .before .before .before .formed .ensures) ∙ c .before .before .before .before .before .if1 .taken)) (c .before .before .perform .ensures _)
+
 returns-2 : tie.Need-returns-2
 unfolding stepOf fetch tried
-returns-2 c = rw (lt-ltb _ _ (c .before .before .before .before .before .before .before .before .before .before .before .if1 .left), decode-back _ _ _ _ (sym (c .before .before .before .before .before .before .formed .ensures) ∙ c .before .before .before .before .before .if2 .taken)) (c .before .before .perform .ensures)
-
-returns-3 : tie.Need-returns-3
-unfolding stepOf fetch tried
-returns-3 c = rw (lt-ltb _ _ (c .before .before .before .before .before .before .if1 .left), decode-none _ _ _ _ (sym (c .before .formed .ensures) ∙ c .if2 .left))
+returns-2 c = rw (lt-ltb _ _ (c .before .before .before .before .before .before .before .before .pre .3), decode-none _ _ _ _ (sym (c .before .formed .ensures) ∙ c .if1 .left))
 
 pub advance-spec : {M : Type 1} → statement M
 advance-spec =
     tie.close
     (tie.spec
-    returns
     mul-at
     mul-op
     shared-slice-read-op
@@ -87,5 +81,5 @@ advance-spec =
     formed-requires
     perform-requires
     same-length
-    returns-2
-    returns-3)
+    returns
+    returns-2)

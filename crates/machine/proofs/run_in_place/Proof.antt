@@ -1,7 +1,7 @@
 -- `run_in_place`: a refusal leaves all as it came; otherwise the run over a cleared place 0, put back after it, whose place and budget fit.
 -- Assumes nothing.
 use Rattle.machine.specs.Entry.{runEntry}
-use Rattle.machine.proofs.Entries.{fine-words, left-at, place-at}
+use Rattle.machine.proofs.Entries.{fine-sizes, left-at, place-at}
 use Rattle.machine.proofs.Cleared.{cleared, put-back}
 use mathlib.Core.Path.{_∙_, sym}
 use native.Mathlib.Omega.{arith}
@@ -28,13 +28,15 @@ element-write-registers : tie.Need-element-write-registers
 element-write-registers c = search needs
 
 proceed-requires : tie.Need-proceed-requires
-proceed-requires c κs = (fine-words _ _ (sym (c .before .before .before .before .before .before .check-sizes .ensures) ∙ c .before .before .before .before .enum-told3 .given .1), cleared (c .before .before .before .before .before .before .before .before .before .args .registers .now))
+proceed-requires c κs =
+    let f = fine-sizes _ _ (sym (c .before .before .before .before .before .before .check-sizes .ensures) ∙ c .before .before .before .before .enum-told3 .given .1) in
+    (f .0, cleared (c .before .before .before .before .before .before .before .before .before .args .registers .now), f .1, search needs)
 
 element-write-registers-2 : tie.Need-element-write-registers-2
 element-write-registers-2 c = search needs
 
 cast-place : tie.Need-cast-place
-cast-place c = record { fits = place-at _ _ _ _ _ _ (fine-words _ _ (sym (c .before .before .before .before .before .before .before .before .before .check-sizes .ensures) ∙ c .before .before .before .before .before .before .before .enum-told3 .given .1)) (search needs) (c .before .before .proceed .ensures) }
+cast-place c = record { fits = place-at _ _ _ _ _ _ (fine-sizes _ _ (sym (c .before .before .before .before .before .before .before .before .before .check-sizes .ensures) ∙ c .before .before .before .before .before .before .before .enum-told3 .given .1) .0) (search needs) (c .before .before .proceed .ensures) }
 
 sub-steps : tie.Need-sub-steps
 sub-steps c = let h = left-at _ _ _ _ _ _ (c .before .before .proceed .ensures) in omega arith

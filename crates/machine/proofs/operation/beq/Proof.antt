@@ -14,7 +14,7 @@ branch-requires : tie.Need-branch-requires
 branch-requires c κs = search needs
 
 returns : tie.Need-returns
-returns c = rw (← c .before .before .read .ensures, ← c .before .read2 .ensures) (c .branch .ensures)
+returns c p = rw (← c .before .before .read .ensures, ← c .before .read2 .ensures) (c .branch .ensures p)
 
 pub beq-spec : {M : Type 1} → statement M
 beq-spec = tie.close (tie.spec read-requires read-requires-2 branch-requires returns)

@@ -1,7 +1,9 @@
 -- `load`: by the two cases of the cell.
 -- Assumes nothing.
 use native.Mathlib.Omega.{arith}
+use mathlib.Core.Path.{ap}
 use Rattle.word.proofs.Biased.{cell-within}
+use Rattle.machine.specs.Step.{cellSaid}
 use borrow.Author.Needs.{needs}
 use Rattle.machine.proofs.operation.load.Statement.{statement}
 use Rattle.machine.proofs.operation.load.Tie as tie
@@ -19,10 +21,10 @@ enum-known-cell : tie.Need-enum-known-cell
 enum-known-cell c = search needs
 
 mul-write : tie.Need-mul-write
-mul-write c = omega (arith, cell-within _ _ (c .before .before .before .before .cell-at .ensures) (c .before .before .cell .given .1), c .before .before .before .before .before .before .before .before .before .before .good)
+mul-write c = omega (arith, cell-within _ _ (c .before .before .before .before .cell-at .ensures) (ap cellSaid (c .before .before .cell .given .1)), c .before .before .before .before .before .before .before .before .before .before .good)
 
 shared-slice-read-write : tie.Need-shared-slice-read-write
-shared-slice-read-write c = cell-within _ _ (c .before .before .before .before .before .cell-at .ensures) (c .before .before .before .cell .given .1)
+shared-slice-read-write c = cell-within _ _ (c .before .before .before .before .before .cell-at .ensures) (ap cellSaid (c .before .before .before .cell .given .1))
 
 write-requires : tie.Need-write-requires
 write-requires c κs = search needs
@@ -34,10 +36,10 @@ missed-requires : tie.Need-missed-requires
 missed-requires c κs = search needs
 
 returns : tie.Need-returns
-returns c = rw (← c .before .before .before .before .before .before .before .before .before .read .ensures, ← c .before .before .before .before .before .before .before .read2 .ensures, ← c .before .before .before .before .before .before .cell-at .ensures, c .before .before .before .before .cell .given .1, c .write .ensures .0, c .write .ensures .1)
+returns c p = rw (← c .before .before .before .before .before .before .before .before .before .read .ensures, ← c .before .before .before .before .before .before .before .read2 .ensures, ← c .before .before .before .before .before .before .cell-at .ensures, c .before .before .before .before .cell .given .1, c .write .ensures .0 p, c .write .ensures .1)
 
 returns-2 : tie.Need-returns-2
-returns-2 c = rw (← c .before .before .before .before .before .before .read .ensures, ← c .before .before .before .before .read2 .ensures, ← c .before .before .before .cell-at .ensures, c .before .enum-told .given .1, c .missed .ensures)
+returns-2 c p = rw (← c .before .before .before .before .before .before .read .ensures, ← c .before .before .before .before .read2 .ensures, ← c .before .before .before .cell-at .ensures, c .before .enum-told .given .1, c .missed .ensures p)
 
 pub load-spec : {M : Type 1} → statement M
 load-spec =

@@ -2,7 +2,6 @@
 -- Assumes nothing.
 use lib.ListN.{List·getD-eq-default}
 use native.Mathlib.Omega.{arith}
-use native.Mathlib.Numerals.{add-one}
 use Rattle.instruction.proofs.Forms.{above, registers-below}
 use Rattle.instruction.specs.Instruction.{formed, operations}
 use Rattle.machine.specs.Step.{perform}
@@ -10,24 +9,21 @@ use borrow.Author.Needs.{needs}
 use Rattle.machine.proofs.operation.perform.Statement.{statement}
 use Rattle.machine.proofs.operation.perform.Tie as tie
 
-add-t10 : tie.Need-add-t10
-add-t10 c = search needs
-
 add-requires : tie.Need-add-requires
 unfolding formed operations
-add-requires c κs = let h = registers-below (c .before .before .before .args .a) (c .before .before .before .args .b) (c .before .before .before .args .c) (rw (c .before .match .keys3) at (c .before .before .before .pre .0)) in (h .0, h .1, h .2, c .before .before .before .pre .1, c .before .before .before .pre .2)
+add-requires c κs = let h = registers-below (c .before .before .before .args .a) (c .before .before .before .args .b) (c .before .before .before .args .c) (rw (c .before .match .keys3) at (c .before .before .before .pre .0)) in (h .0, h .1, h .2, c .before .before .before .pre .1)
 
 addi-requires : tie.Need-addi-requires
 unfolding formed operations
-addi-requires c κs = let h = registers-below (c .before .before .before .args .a) 0 (c .before .before .before .args .c) (rw (c .before .match .keys4) at (c .before .before .before .pre .0)) in (h .0, h .2, c .before .before .before .pre .1, c .before .before .before .pre .2)
+addi-requires c κs = let h = registers-below (c .before .before .before .args .a) 0 (c .before .before .before .args .c) (rw (c .before .match .keys4) at (c .before .before .before .pre .0)) in (h .0, h .2, c .before .before .before .pre .1)
 
 sub-requires : tie.Need-sub-requires
 unfolding formed operations
-sub-requires c κs = let h = registers-below (c .before .before .before .args .a) (c .before .before .before .args .b) (c .before .before .before .args .c) (rw (c .before .match .keys5) at (c .before .before .before .pre .0)) in (h .0, h .1, h .2, c .before .before .before .pre .1, c .before .before .before .pre .2)
+sub-requires c κs = let h = registers-below (c .before .before .before .args .a) (c .before .before .before .args .b) (c .before .before .before .args .c) (rw (c .before .match .keys5) at (c .before .before .before .pre .0)) in (h .0, h .1, h .2, c .before .before .before .pre .1)
 
 mul-requires : tie.Need-mul-requires
 unfolding formed operations
-mul-requires c κs = let h = registers-below (c .before .before .before .args .a) (c .before .before .before .args .b) (c .before .before .before .args .c) (rw (c .before .match .keys6) at (c .before .before .before .pre .0)) in (h .0, h .1, h .2, c .before .before .before .pre .1, c .before .before .before .pre .2)
+mul-requires c κs = let h = registers-below (c .before .before .before .args .a) (c .before .before .before .args .b) (c .before .before .before .args .c) (rw (c .before .match .keys6) at (c .before .before .before .pre .0)) in (h .0, h .1, h .2, c .before .before .before .pre .1)
 
 load-requires : tie.Need-load-requires
 unfolding formed operations
@@ -42,79 +38,78 @@ jump-requires c κs = search needs
 
 bne-requires : tie.Need-bne-requires
 unfolding formed operations
-bne-requires c κs = let h = registers-below (c .before .before .before .args .a) (c .before .before .before .args .b) 0 (rw (c .before .match .keys10) at (c .before .before .before .pre .0)) in (h .0, h .1, c .before .before .before .pre .1, c .before .before .before .pre .2)
+bne-requires c κs = let h = registers-below (c .before .before .before .args .a) (c .before .before .before .args .b) 0 (rw (c .before .match .keys10) at (c .before .before .before .pre .0)) in (h .0, h .1, c .before .before .before .pre .1)
 
 beq-requires : tie.Need-beq-requires
 unfolding formed operations
-beq-requires c κs = let h = registers-below (c .before .before .before .args .a) (c .before .before .before .args .b) 0 (rw (c .before .match .keys11) at (c .before .before .before .pre .0)) in (h .0, h .1, c .before .before .before .pre .1, c .before .before .before .pre .2)
+beq-requires c κs = let h = registers-below (c .before .before .before .args .a) (c .before .before .before .args .b) 0 (rw (c .before .match .keys11) at (c .before .before .before .pre .0)) in (h .0, h .1, c .before .before .before .pre .1)
 
 slt-requires : tie.Need-slt-requires
 unfolding formed operations
-slt-requires c κs = let h = registers-below (c .before .before .before .args .a) (c .before .before .before .args .b) (c .before .before .before .args .c) (rw (c .before .match .keys12) at (c .before .before .before .pre .0)) in (h .0, h .1, h .2, c .before .before .before .pre .1, c .before .before .before .pre .2)
+slt-requires c κs = let h = registers-below (c .before .before .before .args .a) (c .before .before .before .args .b) (c .before .before .before .args .c) (rw (c .before .match .keys12) at (c .before .before .before .pre .0)) in (h .0, h .1, h .2, c .before .before .before .pre .1)
 
 returns : tie.Need-returns
 unfolding perform
-returns c = rw (c .match .keys1)
+returns c p = rw (c .match .keys1)
 
 returns-2 : tie.Need-returns-2
 unfolding perform
-returns-2 c = rw (c .match .keys2, add-one)
+returns-2 c p = rw (c .match .keys2)
 
 returns-3 : tie.Need-returns-3
 unfolding perform
-returns-3 c = rw (c .before .before .match .keys3, c .add .ensures .0, c .add .ensures .1)
+returns-3 c p = rw (c .before .before .match .keys3, c .add .ensures .0 p, c .add .ensures .1)
 
 returns-4 : tie.Need-returns-4
 unfolding perform
-returns-4 c = rw (c .before .before .match .keys4, c .addi .ensures .0, c .addi .ensures .1)
+returns-4 c p = rw (c .before .before .match .keys4, c .addi .ensures .0 p, c .addi .ensures .1)
 
 returns-5 : tie.Need-returns-5
 unfolding perform
-returns-5 c = rw (c .before .before .match .keys5, c .sub .ensures .0, c .sub .ensures .1)
+returns-5 c p = rw (c .before .before .match .keys5, c .sub .ensures .0 p, c .sub .ensures .1)
 
 returns-6 : tie.Need-returns-6
 unfolding perform
-returns-6 c = rw (c .before .before .match .keys6, c .mul .ensures .0, c .mul .ensures .1)
+returns-6 c p = rw (c .before .before .match .keys6, c .mul .ensures .0 p, c .mul .ensures .1)
 
 same-length : tie.Need-same-length
 same-length c = search needs
 
 returns-7 : tie.Need-returns-7
 unfolding perform
-returns-7 c = rw (c .before .before .before .match .keys7) (c .load .ensures)
+returns-7 c p = rw (c .before .before .before .match .keys7) (c .load .ensures p)
 
 same-length-2 : tie.Need-same-length-2
 same-length-2 c = search needs
 
 returns-8 : tie.Need-returns-8
 unfolding perform
-returns-8 c = rw (c .before .before .before .before .before .match .keys8) (c .before .before .store .ensures)
+returns-8 c p = rw (c .before .before .before .before .before .match .keys8) (c .before .before .store .ensures p)
 
 returns-9 : tie.Need-returns-9
 unfolding perform
-returns-9 c = rw (c .before .match .keys9, c .jump .ensures)
+returns-9 c p = rw (c .before .match .keys9, c .jump .ensures p)
 
 returns-10 : tie.Need-returns-10
 unfolding perform
-returns-10 c = rw (c .before .before .match .keys10, c .bne .ensures)
+returns-10 c p = rw (c .before .before .match .keys10, c .bne .ensures p)
 
 returns-11 : tie.Need-returns-11
 unfolding perform
-returns-11 c = rw (c .before .before .match .keys11, c .beq .ensures)
+returns-11 c p = rw (c .before .before .match .keys11, c .beq .ensures p)
 
 returns-12 : tie.Need-returns-12
 unfolding perform
-returns-12 c = rw (c .before .before .match .keys12, c .slt .ensures .0, c .slt .ensures .1)
+returns-12 c p = rw (c .before .before .match .keys12, c .slt .ensures .0 p, c .slt .ensures .1)
 
 returns-13 : tie.Need-returns-13
 unfolding perform
-returns-13 c = rw (List·getD-eq-default _ _ (above 11 _ (above 10 _ (above 9 _ (above 8 _ (above 7 _ (above 6 _ (above 5 _ (above 4 _ (above 3 _ (above 2 _ (above 1 _ (above 0 _ (omega arith) (c .match .rest .0 .0 .0 .0 .0 .0 .0 .0 .0 .0 .0 .1)) (c .match .rest .0 .0 .0 .0 .0 .0 .0 .0 .0 .0 .1)) (c .match .rest .0 .0 .0 .0 .0 .0 .0 .0 .0 .1)) (c .match .rest .0 .0 .0 .0 .0 .0 .0 .0 .1)) (c .match .rest .0 .0 .0 .0 .0 .0 .0 .1)) (c .match .rest .0 .0 .0 .0 .0 .0 .1)) (c .match .rest .0 .0 .0 .0 .0 .1)) (c .match .rest .0 .0 .0 .0 .1)) (c .match .rest .0 .0 .0 .1)) (c .match .rest .0 .0 .1)) (c .match .rest .0 .1)) (c .match .rest .1)))
+returns-13 c p = rw (List·getD-eq-default _ _ (above 11 _ (above 10 _ (above 9 _ (above 8 _ (above 7 _ (above 6 _ (above 5 _ (above 4 _ (above 3 _ (above 2 _ (above 1 _ (above 0 _ (omega arith) (c .match .rest .0 .0 .0 .0 .0 .0 .0 .0 .0 .0 .0 .1)) (c .match .rest .0 .0 .0 .0 .0 .0 .0 .0 .0 .0 .1)) (c .match .rest .0 .0 .0 .0 .0 .0 .0 .0 .0 .1)) (c .match .rest .0 .0 .0 .0 .0 .0 .0 .0 .1)) (c .match .rest .0 .0 .0 .0 .0 .0 .0 .1)) (c .match .rest .0 .0 .0 .0 .0 .0 .1)) (c .match .rest .0 .0 .0 .0 .0 .1)) (c .match .rest .0 .0 .0 .0 .1)) (c .match .rest .0 .0 .0 .1)) (c .match .rest .0 .0 .1)) (c .match .rest .0 .1)) (c .match .rest .1)))
 
 pub perform-spec : {M : Type 1} → statement M
 perform-spec =
     tie.close
     (tie.spec
-    add-t10
     add-requires
     addi-requires
     sub-requires

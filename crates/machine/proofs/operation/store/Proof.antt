@@ -1,8 +1,9 @@
 -- `store`: by the two cases of the cell.
 -- Assumes nothing.
-use native.Mathlib.Numerals.{add-one}
 use native.Mathlib.Omega.{arith}
+use mathlib.Core.Path.{ap}
 use Rattle.word.proofs.Biased.{cell-within}
+use Rattle.machine.specs.Step.{cellSaid}
 use borrow.Author.Needs.{needs}
 use Rattle.machine.proofs.operation.store.Statement.{statement}
 use Rattle.machine.proofs.operation.store.Tie as tie
@@ -23,13 +24,10 @@ enum-known-cell : tie.Need-enum-known-cell
 enum-known-cell c = search needs
 
 mul-m : tie.Need-mul-m
-mul-m c = omega (arith, cell-within _ _ (c .before .before .before .cell-at .ensures) (c .before .cell .given .1), c .before .before .before .before .before .before .before .before .good)
+mul-m c = omega (arith, cell-within _ _ (c .before .before .before .cell-at .ensures) (ap cellSaid (c .before .cell .given .1)), c .before .before .before .before .before .before .before .before .good)
 
 slice-write-m : tie.Need-slice-write-m
-slice-write-m c = cell-within _ _ (c .before .before .before .cell-at .ensures) (c .before .cell .given .1)
-
-add-t14 : tie.Need-add-t14
-add-t14 c = search needs
+slice-write-m c = cell-within _ _ (c .before .before .before .cell-at .ensures) (ap cellSaid (c .before .cell .given .1))
 
 enum-told : tie.Need-enum-told
 enum-told c = search needs
@@ -38,10 +36,10 @@ same-length : tie.Need-same-length
 same-length c = search needs
 
 returns : tie.Need-returns
-returns c = rw (← c .before .before .before .before .before .before .read .ensures, ← c .before .before .before .before .before .read2 .ensures, ← c .before .before .before .before .read3 .ensures, ← c .before .before .before .cell-at .ensures, c .before .cell .given .1, add-one)
+returns c p = rw (← c .before .before .before .before .before .before .read .ensures, ← c .before .before .before .before .before .read2 .ensures, ← c .before .before .before .before .read3 .ensures, ← c .before .before .before .cell-at .ensures, c .before .cell .given .1)
 
 returns-2 : tie.Need-returns-2
-returns-2 c = rw (← c .before .before .before .before .before .read .ensures, ← c .before .before .before .before .read2 .ensures, ← c .before .before .cell-at .ensures, c .enum-told .given .1)
+returns-2 c p = rw (← c .before .before .before .before .before .read .ensures, ← c .before .before .before .before .read2 .ensures, ← c .before .before .cell-at .ensures, c .enum-told .given .1)
 
 pub store-spec : {M : Type 1} → statement M
 store-spec =
@@ -54,7 +52,6 @@ store-spec =
     enum-known-cell
     mul-m
     slice-write-m
-    add-t14
     enum-told
     same-length
     returns
