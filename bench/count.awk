@@ -27,7 +27,8 @@ function finish(i) {
     print_line("instructions a " unit, 0)
     for (i = 1; i <= rows; i++)
         print_line(name[i], i)
-    print_line("mean", -1)
+    if (unit != "call")
+        print_line("mean", -1)
     for (i = 1; i <= sides; i++)
         sum[side[i]] = 0
 }

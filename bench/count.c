@@ -1,5 +1,5 @@
-/* count.c: has a side run or compile a rule so many times, that bench/count counts the processor's instructions; without words it lists
-   what there is to count. */
+/* count.c: has a side run or compile a rule so many times, for bench/count, which counts the processor's instructions; without words it
+   lists what there is to count. */
 #include <inttypes.h>
 #include <stdio.h>
 #include <stdlib.h>
@@ -17,16 +17,21 @@ static const struct side counted[] = {
 
 enum { STEPS = 1300, ROWS = 256, COUNTED = sizeof counted / sizeof counted[0] };
 
+/* Runs from place 0 under a budget: steps of a long one, or short ones as a whole. */
 struct run {
-    const char *name;
+    const char *name, *unit;
     void (*build)(struct rule *);
+    uint32_t budget, units;
 };
 
 static const struct run runs[] = {
-    {"arithmetic loop", arithmetic_loop},
-    {"sieve over an array", sieve},
-    {"nested ifs", nested_ifs},
-    {"long straight line", straight_line},
+    {"arithmetic loop", "step", arithmetic_loop, STEPS, STEPS},
+    {"sieve over an array", "step", sieve, STEPS, STEPS},
+    {"nested ifs", "step", nested_ifs, STEPS, STEPS},
+    {"long straight line", "step", straight_line, STEPS, STEPS},
+    {"run under budget 1", "call", arithmetic_loop, 1, 1},
+    {"run under budget 4", "call", arithmetic_loop, 4, 1},
+    {"run under budget 16", "call", arithmetic_loop, 16, 1},
 };
 
 struct compilation {
@@ -63,7 +68,7 @@ static void count_runs(const struct side *side, const struct run *run, int times
     size_t words = 4 * (size_t)answer[SAUSKINNA_ANSWER_INSTRUCTIONS], cells = answer[SAUSKINNA_ANSWER_CELLS];
     for (int i = 0; i < times; i++) {
         uint32_t place = 0;
-        side->run(code, words, memory, cells, &place, registers, STEPS, answer);
+        side->run(code, words, memory, cells, &place, registers, run->budget, answer);
     }
 }
 
@@ -80,7 +85,8 @@ static void list(void)
     for (int task = 0; task < RUNS + COMPILATIONS; task++)
         for (int side = 0; side < COUNTED; side++)
             if (task < RUNS)
-                printf("%s\tstep\t%d\t%s\t%d\t%d\n", runs[task].name, STEPS, counted[side].name, task, side);
+                printf("%s\t%s\t%" PRIu32 "\t%s\t%d\t%d\n", runs[task].name, runs[task].unit, runs[task].units, counted[side].name, task,
+                       side);
             else if (counted[side].compile != NULL)
                 printf("%s\trow\t%d\t%s\t%d\t%d\n", compilations[task - RUNS].name, ROWS, counted[side].name, task, side);
 }
