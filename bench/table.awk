@@ -115,8 +115,8 @@ END {
         if (("compile", anchors[i]) in times)
             say_compile(anchors[i])
     for (side in places)
-        if (places[side] != placements) {
-            print "failed: the code of " side " was linked at " places[side] " places, not " placements
+        if (places[side] < 4) {
+            print "failed: the code of " side " was linked at " places[side] " places modulo 64, not at four or more"
             exit 1
         }
 }
