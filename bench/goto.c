@@ -1,5 +1,6 @@
 /* goto.c: a run by computed goto, with one bound for place and budget. At -O2 gcc merges most copies of the jump into one; compiled so that
    each operation keeps its own it is the side 'C threaded', RUN being threaded_run. */
+#include "direct.h"
 #include "plain.h"
 #include "sauskinna.h"
 
@@ -10,32 +11,12 @@
 /* Labels as values are GNU C. */
 #pragma GCC diagnostic ignored "-Wpedantic"
 
-static uint32_t say(uint32_t answer[3], uint32_t first, uint32_t second, uint32_t third, uint32_t number)
-{
-    answer[0] = first;
-    answer[1] = second;
-    answer[2] = third;
-    return number;
-}
-
-/* An address that is negative or does not fit is above every count of cells. */
-static inline uint64_t address_of(uint32_t base, uint32_t index)
-{
-    return (uint64_t)((int64_t)(int32_t)base + (int32_t)index);
-}
-
 #define REQUIRE(condition, number) \
     do { \
         if (__builtin_expect(!(condition), 0)) { \
             fault = number; \
             goto faulted; \
         } \
-    } while (0)
-
-#define REQUIRE_RESULT(numbers) \
-    do { \
-        REQUIRE((numbers) < SAUSKINNA_REGISTERS, SAUSKINNA_FAULT_INSTRUCTION); \
-        REQUIRE(a != 0, SAUSKINNA_FAULT_ZERO); \
     } while (0)
 
 #define DISPATCH() \

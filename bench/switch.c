@@ -1,20 +1,7 @@
 /* switch.c: a run as a careful C programmer writes it: a switch, $0 cleared for the reads, register numbers checked together. */
+#include "direct.h"
 #include "plain.h"
 #include "sauskinna.h"
-
-static uint32_t say(uint32_t answer[3], uint32_t first, uint32_t second, uint32_t third, uint32_t number)
-{
-    answer[0] = first;
-    answer[1] = second;
-    answer[2] = third;
-    return number;
-}
-
-/* An address that is negative or does not fit is above every count of cells. */
-static inline uint64_t address_of(uint32_t base, uint32_t index)
-{
-    return (uint64_t)((int64_t)(int32_t)base + (int32_t)index);
-}
 
 #define REQUIRE(condition, number) \
     do { \
@@ -22,12 +9,6 @@ static inline uint64_t address_of(uint32_t base, uint32_t index)
             fault = number; \
             goto out; \
         } \
-    } while (0)
-
-#define REQUIRE_RESULT(numbers) \
-    do { \
-        REQUIRE((numbers) < SAUSKINNA_REGISTERS, SAUSKINNA_FAULT_INSTRUCTION); \
-        REQUIRE(a != 0, SAUSKINNA_FAULT_ZERO); \
     } while (0)
 
 uint32_t switch_run(const int32_t *restrict code, size_t code_words,
