@@ -55,8 +55,8 @@
     } while (0)
 
 uint32_t RUN(const int32_t *restrict code, size_t code_words,
-                  int32_t *restrict memory, size_t cells, uint32_t *place,
-                  int32_t registers[restrict 64], uint32_t budget, uint32_t answer[3])
+             int32_t *restrict memory, size_t cells, uint32_t *place,
+             int32_t registers[restrict 64], uint32_t budget, uint32_t answer[3])
 {
     static const void *const table[] = {
         [SAUSKINNA_HALT] = &&halt, [SAUSKINNA_NOP] = &&nop, [SAUSKINNA_ADD] = &&add, [SAUSKINNA_ADDI] = &&addi,

@@ -12,7 +12,8 @@ use Rattle.word.specs.Word.{Cell, At, Nowhere}
 use Rattle.instruction.specs.Instruction.{Instruction, ins, Fetched, outside, unknown, found, decode, fetch, countOf}
 use Rattle.machine.specs.declared.Move.{Move}
 use Rattle.machine.specs.declared.Move.the-variants as Move
-use Rattle.machine.specs.Step.{Next, Go, Halt, Fault, Did, moved, did, loads, stores, jumpsTo, branches, rules, perform, tried, stepOf, cellAt, readOf}
+use Rattle.machine.specs.Inside.{moved}
+use Rattle.machine.specs.Step.{Next, Go, Halt, Fault, Did, did, loads, stores, jumpsTo, branches, rules, perform, tried, stepOf, cellAt, readOf}
 use Rattle.machine.specs.Run.{follow, runOf}
 
 abbrev pub Within : ℕ → Next → Type 0

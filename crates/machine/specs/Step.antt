@@ -6,10 +6,6 @@ use lib.Dec.{ltb, eqb}
 use lib.ListN.{length, getD, set}
 use Rattle.word.specs.Word.{sumOf, differenceOf, productOf, lessOf, addressOf, cellOf, Cell, At, Nowhere}
 use Rattle.instruction.specs.Instruction.{Instruction, ins, Fetched, outside, unknown, found, fetch, countOf}
-use Rattle.machine.specs.declared.Move.{Move}
-use Rattle.machine.specs.declared.Move.the-variants as Move
-use Rattle.machine.specs.declared.operation.Found.{Found}
-use Rattle.machine.specs.declared.operation.Found.the-variants as Found
 
 -- "A step gives the next state, a halt, or a fault": the next place, or the fault's number
 pub data Next : Type 0 where
@@ -26,13 +22,6 @@ pub record Did : Type 0 where
 abbrev pub did : Next → List ℕ → List ℕ → Did
 did x g m = record { next = x; registers = g; memory = m }
 
--- where each case of `Move` leads from place p
-abbrev pub moved : ℕ → Move → Next
-moved p Move.On = Go (suc p)
-moved p (Move.To q) = Go q
-moved p Move.Halt = Halt
-moved p (Move.Fault f) = Fault f
-
 -- "$0 reads as 0 whatever is stored in its place"
 unfoldable pub readOf : List ℕ → ℕ → ℕ
 readOf g r = cond (eqb r 0) 0 (getD g r 0)
@@ -46,11 +35,6 @@ wroteRegisters a v g = cond (eqb a 0) g (set g a v)
 
 abbrev pub writes : ℕ → ℕ → ℕ → List ℕ → List ℕ → Did
 writes p a v g m = did (wroteNext p a) (wroteRegisters a v g) m
-
--- the cell that each case of `Found` stands for
-abbrev pub cellSaid : Found → Cell
-cellSaid (Found.At i) = At i
-cellSaid Found.Nowhere = Nowhere
 
 -- check 4, "load or store address outside memory", after check 3
 abbrev pub cellAt : List ℕ → List ℕ → ℕ → ℕ → Cell

@@ -5,7 +5,8 @@ ghost use mathlib.Core.Path.{_≡_};
 ghost use Prim.Native.Nat.{_≤_, _<_, min};
 ghost use lib.ListN.{length, getD};
 ghost use Rattle.instruction.specs.Instruction.{countOf};
-ghost use Rattle.machine.specs.Step.{moved, did, stepOf};
+ghost use Rattle.machine.specs.Step.{did, stepOf};
+ghost use Rattle.machine.specs.Inside.{moved};
 ghost use Rattle.machine.specs.Run.{ran, runOf};
 ghost use Rattle.machine.specs.Entry.{shown, stateOf, sizesOf, runSaid, stepSaid, runEntry, stepEntry};
 

@@ -20,7 +20,8 @@ ghost use lib.ListN.{length, getD};
 ghost use Rattle.word.specs.Word.{sumOf, differenceOf, productOf, lessOf, addressOf, cellOf};
 ghost use Rattle.word.proofs.Biased.{long};
 ghost use Rattle.instruction.specs.Instruction.{ins, formed};
-ghost use Rattle.machine.specs.Step.{Fault, moved, did, readOf, wroteNext, wroteRegisters, cellSaid, cellAt, loads, stores, jumpsTo, branches, flagOf, perform as performOf};
+ghost use Rattle.machine.specs.Step.{Fault, did, readOf, wroteNext, wroteRegisters, cellAt, loads, stores, jumpsTo, branches, flagOf, perform as performOf};
+ghost use Rattle.machine.specs.Inside.{moved, cellSaid};
 
 // The word that stands for the least number, -2147483648, and the same number in 64 bits.
 const LEAST: u32 = 2147483648;

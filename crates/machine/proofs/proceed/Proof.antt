@@ -6,7 +6,7 @@ use native.Mathlib.Omega.{arith}
 use native.Mathlib.Numerals.{add-one}
 use lib.ListN.{length, getD}
 use borrow.Author.Needs.{needs}
-use Rattle.machine.specs.Step.{moved}
+use Rattle.machine.specs.Inside.{moved}
 use Rattle.machine.specs.Run.{runOf}
 use Rattle.machine.proofs.Cleared.{step-cleared}
 use Rattle.machine.proofs.Places.{step-to}

@@ -3,7 +3,7 @@
 use native.Mathlib.Omega.{arith}
 use mathlib.Core.Path.{ap}
 use Rattle.word.proofs.Biased.{cell-within}
-use Rattle.machine.specs.Step.{cellSaid}
+use Rattle.machine.specs.Inside.{cellSaid}
 use borrow.Author.Needs.{needs}
 use Rattle.machine.proofs.operation.load.Statement.{statement}
 use Rattle.machine.proofs.operation.load.Tie as tie
