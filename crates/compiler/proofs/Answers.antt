@@ -9,12 +9,12 @@ use lib.ListN.{length, drop}
 use lib.Seq.{sets-eq}
 use borrow.Author.Tests.{le-leb, lt-leb, eq-eqb}
 use Rattle.instruction.specs.Instruction.{assemble}
-use Rattle.rule.specs.declared.Verdict.{Verdict}
-use Rattle.rule.specs.declared.Verdict.the-variants.{Passes, Refuses}
+use Rattle.refusal.specs.declared.Verdict.{Verdict}
+use Rattle.refusal.specs.declared.Verdict.the-variants.{Passes, Refuses}
 use Rattle.rule.specs.Tree.{Com, Binding}
-use Rattle.rule.specs.Check.{_andThen_}
+use Rattle.refusal.specs.Refusal.{_andThen_, laidOver}
 use Rattle.compiler.specs.Compile.{sizeCom, Tprog}
-use Rattle.compiler.specs.Answer.{poolBit, enough, roomFor, laidOver}
+use Rattle.compiler.specs.Answer.{poolBit, enough, roomFor}
 use Rattle.compiler.specs.Inside.{Emitted}
 use Rattle.compiler.proofs.Sizes.{size-prog, length-assemble}
 

@@ -6,7 +6,7 @@ use mathlib.Core.List.{List}
 use Prim.Native.Nat.{ℕ, _+_, _-_, _*_, _≤_, _<_}
 use native.Mathlib.Omega.{arith}
 use lib.ListN.{length}
-use Rattle.rule.specs.declared.Verdict.the-variants.{Passes}
+use Rattle.refusal.specs.declared.Verdict.the-variants.{Passes}
 use Rattle.rule.specs.Tree.{Op, plus, minus, times, less, equal, both, either, Exp, Com, Binding, constant, variable, array}
 use Rattle.rule.specs.Kind.{Kind, unknown, aValue, anIdent, anElement, aBinary, aNot, aSkip, anAssign, anAssignAt, aSequence, anIf, aWhile, wordsOf, first, second, third, isExpression, isCommand}
 use Rattle.rule.specs.Table.{nodeRows, word, kindAt, expOf, comOf, expAt, comAt}

@@ -7,10 +7,11 @@ use native.Mathlib.Omega.{arith}
 use lib.ListN.{length, getD}
 use Rattle.instruction.specs.Instruction.{assemble}
 use Rattle.rule.specs.declared.Layout.{Layout}
-use Rattle.rule.specs.declared.Verdict.{Verdict}
-use Rattle.rule.specs.declared.Verdict.the-variants.{Passes}
+use Rattle.refusal.specs.declared.Verdict.{Verdict}
+use Rattle.refusal.specs.declared.Verdict.the-variants.{Passes}
 use Rattle.rule.specs.Table.{declarationRows, firstCell, bindingOf, nodeRows, comAt, program}
-use Rattle.rule.specs.Check.{_andThen_, nodeWords, declarationWords, declarations, declared, rows, usedOnce, nodes}
+use Rattle.refusal.specs.Refusal.{_andThen_}
+use Rattle.rule.specs.Check.{nodeWords, declarationWords, declarations, declared, rows, usedOnce, nodes}
 use Rattle.rule.specs.Layout.{laidSaid, layoutOf}
 use Rattle.rule.proofs.Verdicts.{both-pass, node-words-pass, declaration-words-pass}
 use Rattle.rule.proofs.Clean.{rows-in-order, row-in-order, last-in-order}

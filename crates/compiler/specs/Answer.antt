@@ -1,15 +1,16 @@
 -- What `compile` answers and what it leaves in the code buffer. 01-scope.md, "Numbered refusals, in order".
 use mathlib.Core.Bool.{cond}
-use mathlib.Core.List.{List, _++_}
+use mathlib.Core.List.{List}
 use Prim.Native.Nat.{ℕ, _+_, _*_, _%_}
 use lib.Dec.{eqb, leb}
-use lib.ListN.{length, drop}
+use lib.ListN.{length}
 use Rattle.instruction.specs.Instruction.{assemble}
-use Rattle.rule.specs.declared.Verdict.{Verdict}
-use Rattle.rule.specs.declared.Verdict.the-variants.{Passes, Refuses}
+use Rattle.refusal.specs.declared.Verdict.{Verdict}
+use Rattle.refusal.specs.declared.Verdict.the-variants.{Passes, Refuses}
 use Rattle.rule.specs.Tree.{Com}
 use Rattle.rule.specs.Table.{firstCell, bindingOf, declarationRows, program}
-use Rattle.rule.specs.Check.{_andThen_, nodeWords, declarationWords, declarations, rows, usedOnce}
+use Rattle.refusal.specs.Refusal.{_andThen_, laidOver}
+use Rattle.rule.specs.Check.{nodeWords, declarationWords, declarations, rows, usedOnce}
 use Rattle.compiler.specs.declared.CompileAnswer.{CompileAnswer}
 use Rattle.compiler.specs.declared.CompileAnswer.the-variants.{Accepted, Refused}
 use Rattle.compiler.specs.Pool.{registersOf}
@@ -67,9 +68,6 @@ module _ (ds ns : List ℕ) where
   compiled pool words = saidAs instructions cells need (verdict pool words)
 
 -- "A refused compilation changes no word"; "code words beyond the count keep their contents"
-abbrev pub laidOver : List ℕ → List ℕ → List ℕ
-laidOver ws code = ws ++ drop (length ws) code
-
 abbrev pub bufferAs : List ℕ → List ℕ → Said → List ℕ
 bufferAs ws code (accepted n c k) = laidOver ws code
 bufferAs ws code (refused n v) = code

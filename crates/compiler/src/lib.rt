@@ -6,14 +6,15 @@ mod node;
 mod pool;
 mod size;
 
-use rule::Verdict;
+use refusal::Verdict;
 ghost use mathlib.Core.Path.{_≡_};
 ghost use Prim.Native.Nat.{_+_, _<_, _≤_};
 ghost use lib.ListN.{length};
 ghost use Rattle.instruction.specs.Instruction.{assemble};
-ghost use Rattle.rule.specs.declared.Verdict.the-variants.{Passes};
+ghost use Rattle.refusal.specs.declared.Verdict.the-variants.{Passes};
 ghost use Rattle.rule.specs.Table.{bindingOf, comAt, program};
-ghost use Rattle.rule.specs.Check.{_andThen_, nodeWords, declarationWords, declarations as declarationsOf, rows as rowsOf, usedOnce};
+ghost use Rattle.refusal.specs.Refusal.{_andThen_};
+ghost use Rattle.rule.specs.Check.{nodeWords, declarationWords, declarations as declarationsOf, rows as rowsOf, usedOnce};
 ghost use Rattle.compiler.specs.Pool.{registersOf};
 ghost use Rattle.compiler.specs.Compile.{needCom, sizeCom, Tprog};
 ghost use Rattle.compiler.specs.Answer.{compileSaid, enough, roomFor, need as needOf, instructions as instructionsOf, cells as cellsOf, saidAs, bufferAs, compiled, leaves};

@@ -10,8 +10,8 @@ use lib.ListN.{length, take, drop}
 use lib.Seq.{take-at}
 use borrow.Author.Tests.{eqb-true, leb-true}
 use Rattle.instruction.specs.Instruction.{assemble}
-use Rattle.rule.specs.declared.Verdict.{Verdict}
-use Rattle.rule.specs.declared.Verdict.the-variants.{Passes, Refuses}
+use Rattle.refusal.specs.declared.Verdict.{Verdict}
+use Rattle.refusal.specs.declared.Verdict.the-variants.{Passes, Refuses}
 use Rattle.rule.specs.Table.{firstCell, bindingOf, declarationRows, program}
 use Rattle.rule.specs.Check.{nodeWords, declarationWords, declarations, declared, rows, usedOnce}
 use Rattle.rule.proofs.Verdicts.{both-pass}

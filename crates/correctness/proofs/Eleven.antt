@@ -9,11 +9,12 @@ use native.Mathlib.Omega.{arith}
 use lib.Dec.{eqb, ltb, leb}
 use lib.ListN.{length}
 use borrow.Author.Tests.{leb-false}
-use Rattle.rule.specs.declared.Verdict.{Verdict}
-use Rattle.rule.specs.declared.Verdict.the-variants.{Passes, Refuses}
+use Rattle.refusal.specs.declared.Verdict.{Verdict}
+use Rattle.refusal.specs.declared.Verdict.the-variants.{Passes, Refuses}
 use Rattle.rule.specs.Kind.{isCommand}
 use Rattle.rule.specs.Table.{declarationRows, sort, given, firstCell, bindingOf, nodeRows, kindAt, program}
-use Rattle.rule.specs.Check.{_andThen_, lowestFrom, firstRefused, isDeclaration, declarationNo, refused as refusedNo, lastNo, rowNo, misused, nodeWords, declarationWords, declarations, rows, usedOnce}
+use Rattle.refusal.specs.Refusal.{_andThen_, lowestFrom, firstRefused}
+use Rattle.rule.specs.Check.{isDeclaration, declarationNo, refused as refusedNo, lastNo, rowNo, misused, nodeWords, declarationWords, declarations, rows, usedOnce}
 use Rattle.compiler.specs.Pool.{registersOf}
 use Rattle.correctness.specs.Choice.{ChoosesCom}
 use Rattle.compiler.specs.Answer.{refused, saidAs, poolBit, enough, roomFor, need, instructions, cells, verdict, compiled}

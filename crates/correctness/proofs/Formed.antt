@@ -9,7 +9,7 @@ use lib.Dec.{ltb}
 use lib.ListN.{length}
 use borrow.Author.Tests.{lt-ltb}
 use Rattle.instruction.specs.Instruction as I
-use Rattle.instruction.specs.Instruction.{Instruction, ins, operations, formed, addi, load, jmp, beq}
+use Rattle.instruction.specs.Instruction.{Instruction, ins, operationOf, operations, formed, addi, load, jmp, beq}
 use Rattle.rule.specs.Tree.{Op, plus, minus, times, less, equal, both, either}
 use Rattle.rule.specs.Tree.{Exp, value, ident, element, binary, negate}
 use Rattle.rule.specs.Tree.{Com, skip, assign, assignAt, sequence, choose, while}
@@ -34,7 +34,7 @@ zero-low : 0 < 64
 zero-low = omega arith
 
 operator-formed : (op : Op) (r t u q : ℕ) → r < 64 → t < 64 → u < 64 → AllFormed (operatorCode op r t u q)
-unfolding formed operations
+unfolding formed operationOf operations
 operator-formed plus r t u q hr ht hu = (three hr ht hu, tt)
 operator-formed minus r t u q hr ht hu = (three hr ht hu, tt)
 operator-formed times r t u q hr ht hu = (three hr ht hu, tt)
@@ -44,20 +44,20 @@ operator-formed both r t u q hr ht hu = (sum hr zero-low, (branch ht zero-low, (
 operator-formed either r t u q hr ht hu = (sum hr zero-low, (branch ht zero-low, (branch hu zero-low, (sum hr zero-low, tt))))
 
 not-formed : (r t q : ℕ) → r < 64 → t < 64 → AllFormed (notCode r t q)
-unfolding formed operations
+unfolding formed operationOf operations
 not-formed r t q hr ht = (sum hr zero-low, (branch ht zero-low, (sum hr zero-low, tt)))
 
 -- an address into u, and then a load into r or a store from it
 load-formed : (a r u k : ℕ) → r < 64 → u < 64 → k < 64 → AllFormed (ins addi u a 0 ∷ ins load r u k ∷ [])
-unfolding formed operations
+unfolding formed operationOf operations
 load-formed a r u k hr hu hk = (sum hu zero-low, (three hr hu hk, tt))
 
 store-formed : (a r u k : ℕ) → r < 64 → u < 64 → k < 64 → AllFormed (ins addi u a 0 ∷ ins I.store u k r ∷ [])
-unfolding formed operations
+unfolding formed operationOf operations
 store-formed a r u k hr hu hk = (sum hu zero-low, (three hu hk hr, tt))
 
 addi-formed : (v r : ℕ) → r < 64 → AllFormed (ins addi r v 0 ∷ [])
-unfolding formed operations
+unfolding formed operationOf operations
 addi-formed v r hr = (sum hr zero-low, tt)
 
 named-formed : (x : Binding) (r : ℕ) (F : List ℕ) → needNamed x ≤ length F → Pool (r ∷ F) → AllFormed (namedCode x r F)
@@ -99,7 +99,7 @@ module _ (ρ : ℕ → Binding) where
       append-formed (Texp ρ e t F p) (notCode r t (p + sizeExp ρ e)) (texp-formed e t F p (omega arith) (g .3)) (not-formed r t (p + sizeExp ρ e) (g .1) (g .3 .1))
 
   tcom-formed : (c : Com) (F : List ℕ) (p : ℕ) → needCom ρ c ≤ length F → Pool F → AllFormed (Tcom ρ c F p)
-  unfolding Tcom needCom formed operations
+  unfolding Tcom needCom formed operationOf operations
   tcom-formed skip F p n g = (refl, tt)
   tcom-formed (assign x e) [] p n g = absurd (omega arith)
   tcom-formed (assign x e) (t ∷ []) p n g = absurd (omega arith)
@@ -138,5 +138,5 @@ module _ (ρ : ℕ → Binding) where
 
   -- every instruction of a program is formed
   pub tprog-formed : (c : Com) (F : List ℕ) → needCom ρ c ≤ length F → Pool F → AllFormed (Tprog ρ c F)
-  unfolding Tprog formed operations
+  unfolding Tprog formed operationOf operations
   tprog-formed c F n g = append-formed (Tcom ρ c F 0) (ins I.halt 0 0 0 ∷ []) (tcom-formed c F 0 n g) (refl, tt)

@@ -7,8 +7,9 @@ use mathlib.Core.List.{List}
 use Prim.Native.Nat.{ℕ, _+_, _*_, _/_, _%_, _^_, _<_, _≤_}
 use native.Mathlib.Omega.{arith}
 use lib.ListN.{length, getD, take}
-use borrow.Author.Tests.{eq-eqb, le-leb}
+use borrow.Author.Tests.{le-leb}
 use Rattle.word.specs.Word.{Words, differenceOf}
+use Rattle.instruction.proofs.Forms.{words-taken}
 use Rattle.machine.specs.declared.Ending.the-variants.{Halted, Faulted}
 use Rattle.machine.specs.declared.State.{State}
 use Rattle.machine.specs.Entry.{ended, stateOf, sizesOf, runEntry}
@@ -116,7 +117,7 @@ pub run-is-single-steps : (code m : List ℕ) (s : State) (budget : ℕ) → len
     → runEntry code m s budget ≡ singly code budget s m
 unfolding sizesOf
 run-is-single-steps code m s budget w h l =
-    S.run-is-single-steps code m s budget (rw (eq-eqb (length code % 4) 0 w, le-leb (length code) 262144 h, le-leb (length m) 65536 l))
+    S.run-is-single-steps code m s budget (rw (words-taken (length code) w h, le-leb (length m) 65536 l))
 
 -- The meaning, from the meaning alone: for all names, rules, memories and budgets
 

@@ -5,8 +5,9 @@ use mathlib.Core.List.{List}
 use Prim.Native.Nat.{ℕ, _-_, _*_, _%_, _≤_}
 use native.Mathlib.Omega.{arith}
 use lib.ListN.{length, take}
-use borrow.Author.Tests.{eq-eqb, le-leb}
+use borrow.Author.Tests.{le-leb}
 use Rattle.word.specs.Word.{Words}
+use Rattle.instruction.proofs.Forms.{words-taken}
 use Rattle.machine.specs.declared.Ending.{Ending}
 use Rattle.machine.specs.declared.Ending.the-variants.{Faulted}
 use Rattle.machine.specs.Run.{Ran, runOf}
@@ -29,7 +30,7 @@ unfolding runEntry sizesOf
 run-entered C R m n budget e h k =
     let r : length C % 4 ≡ 0 = omega arith in
     let l : length C ≤ 262144 = omega arith in
-    rw (eq-eqb (length C % 4) 0 r, le-leb (length C) 262144 l, le-leb (length m) 65536 k)
+    rw (words-taken (length C) r l, le-leb (length m) 65536 k)
 
 -- and shows how it went
 shows : (F R : List ℕ) (budget : ℕ) (o : Outcome (Unit {0})) (x : Ran) → RanAsMeant F R o x → AsMeant F R budget o (runShown budget x)

@@ -6,14 +6,15 @@ use Prim.Native.Nat.{ℕ, suc, _-_, _*_, _^_}
 use lib.IntN.{ℤ, pos, negsuc}
 use lib.ListN.{getD, replicate, take}
 use Rattle.word.specs.Word.{signed, wordOf, sumOf, differenceOf, productOf, lessOf, addressOf, cellOf}
-use Rattle.instruction.specs.Instruction.{operations, formed, decode, encode, assemble, fetch}
+use Rattle.instruction.specs.Instruction.{operations, operationOf, formed, decode, encode, assemble, fetch, taken}
 use Rattle.instruction.specs.Instruction.{halt, nop, add, addi, sub, mul, store, beq, slt}
 use Rattle.machine.specs.declared.Ending.the-variants.{Halted, Unfinished}
 use Rattle.machine.specs.Step.{readOf, perform, tried, stepOf}
 use Rattle.machine.specs.Run.{runOf}
 use Rattle.machine.specs.Entry.{Said, ended, went, faulted, Shown, stateOf, sizesOf, runEntry, stepEntry}
 use Rattle.rule.specs.Table.{firstCell, bindingOf, built, entry, expAt, comAt, program}
-use Rattle.rule.specs.Check.{lowestFrom, nodeWords, declarationWords, declarations, rowNo, rows, uses, usedOnce}
+use Rattle.refusal.specs.Refusal.{lowestFrom}
+use Rattle.rule.specs.Check.{nodeWords, declarationWords, declarations, rowNo, rows, uses, usedOnce}
 use Rattle.correctness.specs.Meaning.{Outcome, eval, turns, exec, ruleMeaning}
 use Rattle.compiler.specs.Pool.{registersFrom, registersOf}
 use Rattle.compiler.specs.Compile.{needExp, needCom, sizeExp, sizeCom, Texp, Tcom, Tprog}
@@ -161,5 +162,5 @@ table =
     ∷ []
 
 pub starred : map computed table ≡ map due table
-unfolding signed wordOf sumOf differenceOf productOf lessOf addressOf cellOf operations formed decode encode assemble fetch readOf perform tried stepOf runOf sizesOf runEntry stepEntry firstCell bindingOf built entry expAt comAt lowestFrom nodeWords declarationWords declarations rowNo rows uses usedOnce eval turns exec ruleMeaning registersFrom registersOf needExp needCom sizeExp sizeCom Texp Tcom Tprog poolBit enough roomFor verdict compiled leaves
+unfolding signed wordOf sumOf differenceOf productOf lessOf addressOf cellOf operations operationOf formed decode encode assemble fetch taken readOf perform tried stepOf runOf sizesOf runEntry stepEntry firstCell bindingOf built entry expAt comAt lowestFrom nodeWords declarationWords declarations rowNo rows uses usedOnce eval turns exec ruleMeaning registersFrom registersOf needExp needCom sizeExp sizeCom Texp Tcom Tprog poolBit enough roomFor verdict compiled leaves
 starred = refl

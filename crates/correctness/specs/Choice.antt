@@ -4,7 +4,7 @@ use mathlib.Core.Path.{_≡_}
 use mathlib.Core.List.{List, _∷_}
 use Prim.Native.Nat.{ℕ}
 use lib.ListN.{length}
-use Rattle.rule.specs.declared.Verdict.the-variants.{Passes}
+use Rattle.refusal.specs.declared.Verdict.the-variants.{Passes}
 use Rattle.rule.specs.Tree.{Op, Exp, value, ident, element, binary, negate}
 use Rattle.rule.specs.Tree.{Com, skip, assign, assignAt, sequence, choose, while}
 use Rattle.rule.specs.Tree.{Binding, constant, variable, array}

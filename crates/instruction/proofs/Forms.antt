@@ -2,24 +2,33 @@
 -- Assumes nothing.
 use mathlib.Core.Path.{_≡_, refl, sym, ap}
 use mathlib.Core.Bool.{Bool, true, false, cond, _&&_, true≢false}
-use Prim.Native.Nat.{ℕ, suc, _<_, _≤_}
+use Prim.Native.Nat.{ℕ, zero, suc, _%_, _<_, _≤_}
 use native.Mathlib.Omega.{arith}
-use lib.Dec.{ltb}
-use lib.ListN.{getD, List·getD-eq-default}
-use borrow.Author.Tests.{ltb-true}
-use Rattle.instruction.specs.Instruction.{register, number, none, operations, isOf, ins, formed, found, unknown, decode}
+use lib.Dec.{eqb, ltb, leb}
+use lib.ListN.{List·getD-eq-default}
+use Rattle.instruction.specs.declared.Form.the-variants.{Unknown}
+use borrow.Author.Tests.{eqb-true, ltb-true, leb-true, eq-eqb, le-leb}
+use Rattle.instruction.specs.Instruction.{register, operation, operations, operationOf, isOf, ins, formed, found, unknown, decode, taken}
 
 pub and-true : (s t : Bool) → s && t ≡ true → (s ≡ true) × (t ≡ true)
 and-true true t e = (refl, e)
 and-true false t e = absurd (true≢false (sym e))
 
--- a number that is none of k, and at least k, is above it
-pub above : (k o : ℕ) → k ≤ o → (o ≡ k → ⊥) → suc k ≤ o
-above k o h n = omega arith
+-- a number that is none of those below k, said last of k - 1, is at least k
+abbrev pub Others : Type 0 → ℕ → ℕ → Type 0
+Others X zero o = X
+Others X (suc k) o = Others X k o × (o ≡ k → ⊥)
 
-pub no-operation : (o : ℕ) → 12 ≤ o → getD operations o none ≡ none
-unfolding operations
-no-operation o h = List·getD-eq-default operations none h
+pub others : (X : Type 0) (k o : ℕ) → Others X k o → k ≤ o
+others X zero o h = omega arith
+others X (suc k) o h = above (others X k o (h .0)) (h .1)
+  where
+    above : k ≤ o → (o ≡ k → ⊥) → suc k ≤ o
+    above l n = omega arith
+
+pub no-operation : (o : ℕ) → 12 ≤ o → operationOf o ≡ operation "" Unknown
+unfolding operationOf operations
+no-operation o h = List·getD-eq-default operations (operation "" Unknown) h
 
 -- registers that passed the test
 module _ (a b c : ℕ) where
@@ -37,3 +46,12 @@ decode-back o a b c e = ap (λ (t : Bool). cond t (found (ins o a b c)) unknown)
 pub decode-none : (o a b c : ℕ) → formed (ins o a b c) ≡ false → decode o a b c ≡ unknown
 unfolding decode
 decode-none o a b c e = ap (λ (t : Bool). cond t (found (ins o a b c)) unknown) e
+
+-- what the words of a code that is taken are, and that such numbers are taken
+pub taken-words : (w : ℕ) → taken w ≡ true → (w % 4 ≡ 0) × (w ≤ 262144)
+unfolding taken
+taken-words w e = let h = and-true (eqb (w % 4) 0) (leb w 262144) e in (eqb-true (w % 4) 0 (h .0), leb-true w 262144 (h .1))
+
+pub words-taken : (w : ℕ) → w % 4 ≡ 0 → w ≤ 262144 → taken w ≡ true
+unfolding taken
+words-taken w e h = rw (eq-eqb (w % 4) 0 e, le-leb w 262144 h)

@@ -1,9 +1,12 @@
--- Instructions: the operations of source document 000 by the numbers of 01-scope.md, what their words are, and code as words.
+-- Instructions: the operations of source document 000 by the numbers of 01-scope.md, how their words are written, and code as words.
 use mathlib.Core.Bool.{Bool, true, false, cond, _&&_}
 use mathlib.Core.List.{List, [], _∷_, _++_}
-use Prim.Native.Nat.{ℕ, _+_, _*_, _/_}
-use lib.Dec.{eqb, ltb}
+use Prim.Native.Nat.{ℕ, _+_, _*_, _/_, _%_}
+use Prim.Native.String.{String}
+use lib.Dec.{eqb, ltb, leb}
 use lib.ListN.{length, getD}
+use Rattle.instruction.specs.declared.Form.{Form}
+use Rattle.instruction.specs.declared.Form.the-variants.{Unknown, Bare, Registers, Immediate, Load, Store, Jump, Branch}
 
 -- "0 halt; 1 nop; 2 add a b c; 3 addi a N c; 4 sub a b c; 5 mul a b c; 6 load a b i; 7 store b i a; 8 jmp L; 9 bne a b L; 10 beq a b L; 11 slt a b c."
 abbrev pub halt : ℕ
@@ -46,27 +49,51 @@ slt = 11
 pub data Class : Type 0 where
   register number label unused : Class
 
--- the three words of an operation; other numbers have none
+-- an operation's mnemonic, and its form: how the three words are written
+pub data Operation : Type 0 where
+  operation : String → Form → Operation
+
+-- the operations in the order of their numbers
+unfoldable pub operations : List Operation
+operations =
+    operation "halt" Bare
+    ∷ operation "nop" Bare
+    ∷ operation "add" Registers
+    ∷ operation "addi" Immediate
+    ∷ operation "sub" Registers
+    ∷ operation "mul" Registers
+    ∷ operation "load" Load
+    ∷ operation "store" Store
+    ∷ operation "jmp" Jump
+    ∷ operation "bne" Branch
+    ∷ operation "beq" Branch
+    ∷ operation "slt" Registers
+    ∷ []
+
+-- the operation of a number; other numbers have none
+unfoldable pub operationOf : ℕ → Operation
+operationOf o = getD operations o (operation "" Unknown)
+
+abbrev pub mnemonicOf : Operation → String
+mnemonicOf (operation m f) = m
+
+abbrev pub formOf : Operation → Form
+formOf (operation m f) = f
+
+-- the three words of a form
 pub data Operands : Type 0 where
   none : Operands
   three : Class → Class → Class → Operands
 
--- the operations in the order of their numbers
-unfoldable pub operations : List Operands
-operations =
-    three unused unused unused
-    ∷ three unused unused unused
-    ∷ three register register register
-    ∷ three register number register
-    ∷ three register register register
-    ∷ three register register register
-    ∷ three register register register
-    ∷ three register register register
-    ∷ three label unused unused
-    ∷ three register register label
-    ∷ three register register label
-    ∷ three register register register
-    ∷ []
+abbrev pub operandsOf : Form → Operands
+operandsOf Unknown = none
+operandsOf Bare = three unused unused unused
+operandsOf Registers = three register register register
+operandsOf Immediate = three register number register
+operandsOf Load = three register register register
+operandsOf Store = three register register register
+operandsOf Jump = three label unused unused
+operandsOf Branch = three register register label
 
 -- "There are 64 registers, $0 to $63"; "unused words 0"
 abbrev pub isOf : Class → ℕ → Bool
@@ -85,7 +112,7 @@ pub data Instruction : Type 0 where
 
 -- no "unknown operation, an unused word not 0, or a register number outside 0..63"
 unfoldable pub formed : Instruction → Bool
-formed (ins o a b c) = fits (getD operations o none) a b c
+formed (ins o a b c) = fits (operandsOf (formOf (operationOf o))) a b c
 
 -- what stands at a place of a code: nothing, four words that are no instruction, or an instruction
 pub data Fetched : Type 0 where
@@ -111,3 +138,10 @@ fetch code p =
     cond (ltb p (countOf code))
     (decode (getD code (p * 4) 0) (getD code (p * 4 + 1) 0) (getD code (p * 4 + 2) 0) (getD code (p * 4 + 3) 0))
     outside
+
+-- refusal 13 is for "code words not a multiple of 4, or above 262,144": other numbers of words are taken
+abbrev pub codeLimit : ℕ
+codeLimit = 262144
+
+unfoldable pub taken : ℕ → Bool
+taken words = eqb (words % 4) 0 && leb words codeLimit

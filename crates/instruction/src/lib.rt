@@ -1,7 +1,7 @@
 // Instructions: the twelve operations by number, and which four words are an instruction.
 ghost use mathlib.Core.Path.{_≡_};
 ghost use mathlib.Core.Bool.{_&&_};
-ghost use Rattle.instruction.specs.Instruction.{isOf, register as registerClass, unused as unusedClass, ins, formed as formedOf};
+ghost use Rattle.instruction.specs.Instruction.{isOf, register as registerClass, unused as unusedClass, operationOf, formOf, ins, formed as formedOf, taken as takenOf};
 
 pub const HALT: u32 = 0;
 
@@ -26,6 +26,53 @@ pub const BNE: u32 = 9;
 pub const BEQ: u32 = 10;
 
 pub const SLT: u32 = 11;
+
+// The most words of a code.
+pub const MOST_WORDS: usize = 262144;
+
+// How an operation's three words are written: none of them; three registers; a register, a number and a register; a register and
+// the address of a load; the address of a store and a register; a label; two registers and a label.
+pub enum Form {
+    Unknown,
+    Bare,
+    Registers,
+    Immediate,
+    Load,
+    Store,
+    Jump,
+    Branch,
+}
+
+// The form of an operation.
+pub fn form_of(op: u32) -> Form
+    ensures { λ r. ⌜ r ≡ formOf (operationOf op) ⌝ }
+{
+    match op {
+        HALT => Form::Bare,
+        NOP => Form::Bare,
+        ADD => Form::Registers,
+        ADDI => Form::Immediate,
+        SUB => Form::Registers,
+        MUL => Form::Registers,
+        LOAD => Form::Load,
+        STORE => Form::Store,
+        JMP => Form::Jump,
+        BNE => Form::Branch,
+        BEQ => Form::Branch,
+        SLT => Form::Registers,
+        _ => Form::Unknown,
+    }
+}
+
+// Whether code of so many words is taken.
+pub fn taken(words: usize) -> bool
+    ensures { λ r. ⌜ r ≡ takenOf words ⌝ }
+{
+    if words % 4 != 0 {
+        return false;
+    }
+    words <= MOST_WORDS
+}
 
 // Whether the three words are all 0.
 fn unused(a: u32, b: u32, c: u32) -> bool

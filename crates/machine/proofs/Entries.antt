@@ -1,12 +1,14 @@
 -- Laws of the entry points: what accepted sizes are, what a run has left, and that a single step is a run under the budget 1.
 -- Assumes nothing.
 use mathlib.Core.Path.{_≡_, refl, sym, ap, _∙_}
-use mathlib.Core.Bool.{Bool, true, false, cond, _&&_}
+use mathlib.Core.Bool.{Bool, true, false, cond}
 use mathlib.Core.List.{List}
-use Prim.Native.Nat.{ℕ, zero, suc, _%_, _<_, _≤_}
+use Prim.Native.Nat.{ℕ, zero, suc, _<_, _≤_}
 use native.Mathlib.Omega.{arith}
-use lib.Dec.{eqb, leb}
+use lib.Dec.{leb}
 use lib.ListN.{length}
+use Rattle.instruction.specs.Instruction.{taken}
+use Rattle.instruction.proofs.Forms.{taken-words}
 use borrow.Author.Tests.{leb-true}
 use Rattle.machine.specs.declared.State.{State}
 use Rattle.machine.specs.declared.Ending.{Ending}
@@ -19,19 +21,18 @@ use Rattle.machine.proofs.Places.{run-place}
 use Rattle.machine.specs.Entry.{Said, refused, ended, went, halted, faulted, Shown, shown, stateOf, sizesOf, entered, runShown, runEntry, stepShown, stepEntry}
 
 -- "13 comes before 14": code of a wrong size is refused whatever the memory
-pub thirteen-first : (w c : ℕ) → eqb (w % 4) 0 && leb w 262144 ≡ false → sizesOf w c ≡ CodeWords
+pub thirteen-first : (w c : ℕ) → taken w ≡ false → sizesOf w c ≡ CodeWords
 unfolding sizesOf
 thirteen-first w c h = rw h
 
 pub fine-sizes : (w c : ℕ) → sizesOf w c ≡ Fine → (w ≤ 262144) × (c ≤ 65536)
 unfolding sizesOf
-fine-sizes w c = go (eqb (w % 4) 0) (leb w 262144) refl (leb c 65536) refl
+fine-sizes w c = go (taken w) refl (leb c 65536) refl
   where
-    go : (r s : Bool) → leb w 262144 ≡ s → (t : Bool) → leb c 65536 ≡ t → cond (r && s) (cond t Fine MemoryCells) CodeWords ≡ Fine → (w ≤ 262144) × (c ≤ 65536)
-    go true true e true f h = (leb-true w 262144 e, leb-true c 65536 f)
-    go true true e false f h = let z : _≡_ {A = ℕ} 0 1 = cc in absurd (omega arith)
-    go true false e t f h = let z : _≡_ {A = ℕ} 0 1 = cc in absurd (omega arith)
-    go false s e t f h = let z : _≡_ {A = ℕ} 0 1 = cc in absurd (omega arith)
+    go : (s : Bool) → taken w ≡ s → (t : Bool) → leb c 65536 ≡ t → cond s (cond t Fine MemoryCells) CodeWords ≡ Fine → (w ≤ 262144) × (c ≤ 65536)
+    go true e true f h = (taken-words w e .1, leb-true c 65536 f)
+    go true e false f h = let z : _≡_ {A = ℕ} 0 1 = cc in absurd (omega arith)
+    go false e t f h = let z : _≡_ {A = ℕ} 0 1 = cc in absurd (omega arith)
 
 followed : (code : List ℕ) (k p : ℕ) → ((q : ℕ) (g m : List ℕ) → runOf code k q g m .left ≤ k) → (x : Next) (g m : List ℕ)
     → follow (runOf code k) k p x g m .left ≤ suc k

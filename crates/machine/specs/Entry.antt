@@ -1,9 +1,10 @@
 -- What the two entry points answer, in the paper's numbers. 01-scope.md, "The machine" and "Numbered refusals".
-use mathlib.Core.Bool.{cond, _&&_}
+use mathlib.Core.Bool.{Bool, cond}
 use mathlib.Core.List.{List}
-use Prim.Native.Nat.{ℕ, _-_, _%_}
-use lib.Dec.{eqb, leb}
+use Prim.Native.Nat.{ℕ, _-_}
+use lib.Dec.{leb}
 use lib.ListN.{length}
+use Rattle.instruction.specs.Instruction.{taken}
 use Rattle.machine.specs.declared.State.{State}
 use Rattle.machine.specs.declared.Ending.{Ending}
 use Rattle.machine.specs.declared.Sizes.{Sizes}
@@ -49,10 +50,13 @@ pub record Shown : Type 0 where
 abbrev pub shown : Said → State → List ℕ → Shown
 shown x s m = record { said = x; state = s; memory = m }
 
--- "13 ... code words not a multiple of 4, or above 262,144"; "14 ... memory above 65,536 cells"; "13 comes before 14"
+-- refusal 14 is for "memory above 65,536 cells"
+abbrev pub cellsTaken : ℕ → Bool
+cellsTaken cells = leb cells 65536
+
+-- "13 comes before 14"
 unfoldable pub sizesOf : ℕ → ℕ → Sizes
-sizesOf words cells =
-    cond (eqb (words % 4) 0 && leb words 262144) (cond (leb cells 65536) Fine MemoryCells) CodeWords
+sizesOf words cells = cond (taken words) (cond (cellsTaken cells) Fine MemoryCells) CodeWords
 
 -- "A refused run or step hands the state back as it came, with no step taken."
 abbrev pub entered : Sizes → Shown → State → List ℕ → Shown

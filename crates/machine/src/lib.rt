@@ -148,10 +148,7 @@ fn proceed(code: &[u32], from: usize, g: &mut [u32; 64], m: &mut [u32], budget: 
 fn check_sizes(words: usize, cells: usize) -> Sizes
     ensures { λ r. ⌜ r ≡ sizesOf words cells ⌝ }
 {
-    if words % 4 != 0 {
-        return Sizes::CodeWords;
-    }
-    if 262144 < words {
+    if !instruction::taken(words) {
         return Sizes::CodeWords;
     }
     if 65536 < cells {

@@ -4,11 +4,12 @@ use mathlib.Core.Path.{_≡_, refl, ap, _∙_}
 use mathlib.Core.List.{List}
 use Prim.Native.Nat.{ℕ}
 use lib.ListN.{length}
-use Rattle.rule.specs.declared.Verdict.{Verdict}
-use Rattle.rule.specs.declared.Verdict.the-variants.{Passes, Refuses}
+use Rattle.refusal.specs.declared.Verdict.{Verdict}
+use Rattle.refusal.specs.declared.Verdict.the-variants.{Passes, Refuses}
 use Rattle.rule.specs.declared.Layout.{Layout}
 use Rattle.rule.specs.Table.{declarationRows, firstCell}
-use Rattle.rule.specs.Check.{_andThen_, nodeWords, declarationWords, declarations, rows, usedOnce, declared, nodes, tables, bases as firstCells}
+use Rattle.refusal.specs.Refusal.{_andThen_}
+use Rattle.rule.specs.Check.{nodeWords, declarationWords, declarations, rows, usedOnce, declared, nodes, tables, bases as firstCells}
 use Rattle.rule.specs.Answer.{verdictSaid, wordsChecked, rowsChecked, saidOf, checked}
 use Rattle.rule.specs.Layout.{Laid, laidSaid, laidOut, layoutOf}
 use Rattle.rule.proofs.Outcomes.{one-verdict}

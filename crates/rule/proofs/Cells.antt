@@ -12,11 +12,12 @@ use lib.Dec.{eqb, ltb, leb}
 use lib.ListN.{length, getD, set, length-set, length-replicate, List·getD-eq-default}
 use lib.Seq.{getD-set-same, getD-set-other}
 use borrow.Author.Tests.{eqb-true, leb-true, leb-false, ltb-false, lt-leb, le-leb}
-use Rattle.rule.specs.declared.Verdict.the-variants.{Passes, Refuses}
+use Rattle.refusal.specs.declared.Verdict.the-variants.{Passes, Refuses}
 use Rattle.rule.specs.Table.{declarationRows, sort, given, cellsOf, firstCell}
 use Rattle.rule.specs.Check.{isDeclaration, declarationNo, refused, declarations, declarationWords, declared, bases}
 use Rattle.rule.proofs.Verdicts.{both-hold, both-pass, declaration-words-pass}
-use Rattle.rule.proofs.Scans.{scan-passes, numberedFrom, numbered-hit, numbered-miss}
+use Rattle.refusal.proofs.Scans.{scan-passes}
+use Rattle.rule.proofs.Scans.{numberedFrom, numbered-hit, numbered-miss}
 
 -- a declaration has at most 65,536 cells
 pub declaration-cells : (k v : ℕ) → isDeclaration k v ≡ true → cellsOf k v ≤ 65536

@@ -7,12 +7,12 @@ use Prim.Native.Nat.{ℕ, suc, _+_, _-_, _*_, _≤_, _<_}
 use native.Mathlib.Omega.{arith}
 use lib.Dec.{eqb, ltb, leb}
 use borrow.Author.Tests.{ltb-true, ltb-false, leb-true, eqb-true, eq-eqb, not-false}
-use Rattle.rule.specs.declared.Verdict.the-variants.{Passes}
+use Rattle.refusal.specs.declared.Verdict.the-variants.{Passes}
 use Rattle.rule.specs.Kind.{Class, Words, none, unused, number, scalar, variableName, arrayName, expression, command, wordsOf, first, second, third, isExpression, isCommand}
 use Rattle.rule.specs.Table.{declarationRows, sort, nodeRows, word, kindAt}
 use Rattle.rule.specs.Check.{among, childNo, nameNo, wordNo, lastNo, rowNo, refused, rows, isChild, uses, misused, usedOnce}
 use Rattle.rule.proofs.Verdicts.{both-hold}
-use Rattle.rule.proofs.Scans.{scan-passes}
+use Rattle.refusal.proofs.Scans.{scan-passes}
 use Rattle.rule.proofs.Count.{Linked, linked-more, rowSum, once-bound}
 
 pub rows-in-order : (ds ns : List ℕ) → rows ds ns ≡ Passes → (i : ℕ) → i < nodeRows ns → 10 ≤ rowNo ds ns i

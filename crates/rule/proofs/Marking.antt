@@ -10,13 +10,14 @@ use lib.Dec.{eqb, ltb}
 use lib.ListN.{length, getD, set, length-set, length-replicate, getD-replicate}
 use lib.Seq.{getD-set-same, getD-set-other}
 use borrow.Author.Tests.{ne-eqb, eqb-true, eqb-false, lt-ltb}
-use Rattle.rule.specs.declared.Verdict.{Verdict}
-use Rattle.rule.specs.declared.Verdict.the-variants.{Passes}
+use Rattle.refusal.specs.declared.Verdict.{Verdict}
+use Rattle.refusal.specs.declared.Verdict.the-variants.{Passes}
 use Rattle.rule.specs.Kind.{Class, wordsOf, first, second, third}
 use Rattle.rule.specs.Table.{word, kindAt, nodeRows}
-use Rattle.rule.specs.Check.{_andThen_, rows, isChild, names, uses, misused, usedOnce}
+use Rattle.refusal.specs.Refusal.{_andThen_}
+use Rattle.rule.specs.Check.{rows, isChild, names, uses, misused, usedOnce}
 use Rattle.rule.specs.Marks.{more, markChild, markWord, markWords, marked, notOnce, onceMarked}
-use Rattle.rule.proofs.Scans.{scan-alike}
+use Rattle.refusal.proofs.Scans.{scan-alike}
 use Rattle.rule.proofs.Count.{Linked}
 use Rattle.rule.proofs.Clean.{row-linked, rows-in-order}
 

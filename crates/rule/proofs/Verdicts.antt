@@ -6,9 +6,10 @@ use Prim.Native.Nat.{ℕ, _<_, _≤_, _%_}
 use native.Mathlib.Omega.{arith}
 use lib.Dec.{eqb, ltb, leb}
 use borrow.Author.Tests.{eqb-true, ltb-true, leb-true}
-use Rattle.rule.specs.declared.Verdict.{Verdict}
-use Rattle.rule.specs.declared.Verdict.the-variants.{Passes, Refuses}
-use Rattle.rule.specs.Check.{_andThen_, nodeWords, declarationWords}
+use Rattle.refusal.specs.declared.Verdict.{Verdict}
+use Rattle.refusal.specs.declared.Verdict.the-variants.{Passes, Refuses}
+use Rattle.refusal.specs.Refusal.{_andThen_}
+use Rattle.rule.specs.Check.{nodeWords, declarationWords}
 
 pub both-hold : (s t : Bool) → s && t ≡ true → (s ≡ true) × (t ≡ true)
 both-hold true t e = (refl, e)

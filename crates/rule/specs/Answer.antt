@@ -1,12 +1,13 @@
 -- What the functions that check answer, in the paper's numbers. 01-scope.md, "Numbered refusals, in order".
 use mathlib.Core.List.{List}
 use Prim.Native.Nat.{ℕ}
-use Rattle.rule.specs.declared.Verdict.{Verdict}
-use Rattle.rule.specs.declared.Verdict.the-variants.{Passes, Refuses}
+use Rattle.refusal.specs.declared.Verdict.{Verdict}
+use Rattle.refusal.specs.declared.Verdict.the-variants.{Passes, Refuses}
 use Rattle.rule.specs.declared.CheckAnswer.{CheckAnswer}
 use Rattle.rule.specs.declared.CheckAnswer.the-variants.{Accepted, Refused}
 use Rattle.rule.specs.Table.{declarationRows, firstCell}
-use Rattle.rule.specs.Check.{_andThen_, nodeWords, declarationWords, nodes, tables}
+use Rattle.refusal.specs.Refusal.{_andThen_}
+use Rattle.rule.specs.Check.{nodeWords, declarationWords, nodes, tables}
 
 -- "If an answer is an enum, a definition gives this paper's number and values for each of its cases. The promises use that definition."
 -- A check that passes, an acceptance with the cell count, or a refusal's number and the number returned

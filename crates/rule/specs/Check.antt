@@ -4,28 +4,11 @@ use mathlib.Core.List.{List}
 use Prim.Native.Nat.{ℕ, zero, suc, _+_, _-_, _*_, _%_, min}
 use lib.Dec.{eqb, ltb, leb}
 use lib.ListN.{length, replicate, set}
-use Rattle.rule.specs.declared.Verdict.{Verdict}
-use Rattle.rule.specs.declared.Verdict.the-variants.{Passes, Refuses}
+use Rattle.refusal.specs.declared.Verdict.{Verdict}
+use Rattle.refusal.specs.declared.Verdict.the-variants.{Passes, Refuses}
+use Rattle.refusal.specs.Refusal.{_andThen_, firstRefused}
 use Rattle.rule.specs.Kind.{Class, none, unused, number, scalar, variableName, arrayName, expression, command, Words, wordsOf, first, second, third, isExpression, isCommand}
 use Rattle.rule.specs.Table.{rowLimit, declarationLimit, cellLimit, declarationRows, sort, given, firstCell, nodeRows, word, kindAt}
-
--- one check after another: the first refusal stands
-infixr 5 _andThen_
-abbrev pub _andThen_ : Verdict → Verdict → Verdict
-Passes andThen v = v
-Refuses n k andThen v = Refuses n k
-
--- the lowest of m rows from i on of which p holds, or the row after them
-unfoldable pub lowestFrom : (ℕ → Bool) → ℕ → ℕ → ℕ
-lowestFrom p zero i = i
-lowestFrom p (suc m) i = cond (p i) i (lowestFrom p m (suc i))
-
--- "the first failing row decides": of n rows the lowest of which p holds is refused, with the number that f gives it
-abbrev pub refusedAt : (ℕ → ℕ) → ℕ → ℕ → Verdict
-refusedAt f n i = cond (ltb i n) (Refuses (f i) i) Passes
-
-abbrev pub firstRefused : (ℕ → ℕ) → (ℕ → Bool) → ℕ → Verdict
-firstRefused f p n = refusedAt f n (lowestFrom p n 0)
 
 -- 1: "node words not a multiple of 4, no rows, or above 1,024 rows"
 unfoldable pub nodeWords : ℕ → Verdict

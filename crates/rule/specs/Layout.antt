@@ -2,8 +2,8 @@
 use mathlib.Core.List.{List}
 use Prim.Native.Nat.{ℕ}
 use lib.ListN.{replicate}
-use Rattle.rule.specs.declared.Verdict.{Verdict}
-use Rattle.rule.specs.declared.Verdict.the-variants.{Passes, Refuses}
+use Rattle.refusal.specs.declared.Verdict.{Verdict}
+use Rattle.refusal.specs.declared.Verdict.the-variants.{Passes, Refuses}
 use Rattle.rule.specs.declared.Layout.{Layout}
 use Rattle.rule.specs.Table.{declarationLimit, declarationRows, firstCell}
 use Rattle.rule.specs.Check.{bases as firstCells, declared}

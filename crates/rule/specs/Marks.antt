@@ -4,10 +4,11 @@ use mathlib.Core.List.{List}
 use Prim.Native.Nat.{ℕ, zero, suc, _-_}
 use lib.Dec.{eqb, ltb}
 use lib.ListN.{getD, replicate, set}
-use Rattle.rule.specs.declared.Verdict.{Verdict}
+use Rattle.refusal.specs.declared.Verdict.{Verdict}
 use Rattle.rule.specs.Kind.{Class, Words, wordsOf, first, second, third}
 use Rattle.rule.specs.Table.{rowLimit, word, kindAt}
-use Rattle.rule.specs.Check.{firstRefused, isChild}
+use Rattle.refusal.specs.Refusal.{firstRefused}
+use Rattle.rule.specs.Check.{isChild}
 
 abbrev pub more : ℕ → ℕ
 more x = cond (eqb x 0) 1 2

@@ -1,11 +1,13 @@
 // Station rules as tables: declarations and nodes, and the checks that a table passes before anything is made of it.
 mod row;
 
+use refusal::Verdict;
 ghost use mathlib.Core.Path.{_≡_};
 ghost use Prim.Native.Nat.{_*_, _<_, _≤_};
 ghost use lib.ListN.{length};
 ghost use Rattle.rule.specs.Table.{rowLimit, declarationLimit, nodeRows, cellsOf};
-ghost use Rattle.rule.specs.Check.{_andThen_, nodeWords, declarationWords, isDeclaration, declarations as declarationsOf, rows as rowsOf, usedOnce};
+ghost use Rattle.refusal.specs.Refusal.{_andThen_};
+ghost use Rattle.rule.specs.Check.{nodeWords, declarationWords, isDeclaration, declarations as declarationsOf, rows as rowsOf, usedOnce};
 ghost use Rattle.rule.specs.Marks.{onceMarked};
 ghost use Rattle.rule.specs.Layout.{laidSaid, noLayout, laidOut, layoutOf};
 ghost use Rattle.rule.specs.Answer.{verdictSaid, checkSaid, wordsChecked, rowsChecked, checked};
@@ -59,12 +61,6 @@ pub const ROW_LIMIT: usize = 1024;
 pub const DECLARATION_LIMIT: usize = 256;
 
 pub const CELL_LIMIT: u32 = 65536;
-
-// Whether a check passes, or the refusal's number and the number returned with it.
-pub enum Verdict {
-    Passes,
-    Refuses(u32, u32),
-}
 
 // The verdict on the declarations, the number of their cells, and the first cell of each.
 pub struct Layout {

@@ -3,9 +3,10 @@ use mathlib.Core.List.{List}
 use Prim.Native.Nat.{ℕ}
 use denote.Ref.{now}
 use lib.ListN.{length}
-use Rattle.rule.specs.declared.Verdict.{Verdict}
-use Rattle.rule.specs.declared.Verdict.the-variants.{Refuses}
-use Rattle.rule.specs.Check.{_andThen_, nodeWords, declarationWords}
+use Rattle.refusal.specs.declared.Verdict.{Verdict}
+use Rattle.refusal.specs.declared.Verdict.the-variants.{Refuses}
+use Rattle.refusal.specs.Refusal.{_andThen_}
+use Rattle.rule.specs.Check.{nodeWords, declarationWords}
 use Rattle.rule.proofs.Verdicts.{both-pass}
 use Rattle.rule.proofs.Answers.{words-verdict}
 use Rattle.compiler.specs.Answer.{refused, poolBit, compiled, verdict}

@@ -4,9 +4,10 @@ use Prim.Native.Nat.{ℕ}
 use native.Mathlib.Omega.{arith}
 use denote.Ref.{now}
 use lib.ListN.{length}
-use Rattle.rule.specs.declared.Verdict.{Verdict}
-use Rattle.rule.specs.declared.Verdict.the-variants.{Passes}
-use Rattle.rule.specs.Check.{_andThen_, declarations}
+use Rattle.refusal.specs.declared.Verdict.{Verdict}
+use Rattle.refusal.specs.declared.Verdict.the-variants.{Passes}
+use Rattle.refusal.specs.Refusal.{_andThen_}
+use Rattle.rule.specs.Check.{declarations}
 use Rattle.rule.proofs.Answers.{rows-verdict}
 use Rattle.compiler.specs.Pool.{registersOf}
 use Rattle.compiler.specs.Answer.{Said, enough, roomFor, need, instructions, cells, saidAs}

@@ -10,7 +10,8 @@ use Rattle.rule.specs.Table.{declarationRows, sort, given, firstCell}
 use Rattle.rule.specs.Check.{declarationNo, refused, declarations as declarationsOf, bases as firstCells}
 use Rattle.rule.specs.Answer.{passed, verdictSaid}
 use Rattle.rule.specs.Layout.{laidAs, laidSaid, laidOut}
-use Rattle.rule.proofs.Scans.{numberedFrom, scan-start, scan-end}
+use Rattle.refusal.proofs.Scans.{scan-start, scan-end}
+use Rattle.rule.proofs.Scans.{numberedFrom}
 use Rattle.rule.proofs.Cells.{declaration-cells, first-cell-next, bases-next, no-declaration, too-many-cells, declaration-in-order}
 use Rattle.rule.proofs.lay_rows.Statement.{statement}
 use Rattle.rule.proofs.lay_rows.Tie as tie

@@ -6,7 +6,7 @@ use Prim.Native.Nat.{_-_, _≤_}
 use native.Mathlib.Omega.{arith}
 use borrow.Author.Tests.{eq-eqb, ne-eqb}
 use Rattle.rule.specs.Marks.{notOnce, onceMarked}
-use Rattle.rule.proofs.Scans.{scanFrom, scan-start, scan-hit, scan-miss, scan-end}
+use Rattle.refusal.proofs.Scans.{scanFrom, scan-start, scan-hit, scan-miss, scan-end}
 use Rattle.rule.proofs.scan_marks.Statement.{statement}
 use Rattle.rule.proofs.scan_marks.Tie as tie
 

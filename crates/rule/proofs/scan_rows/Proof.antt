@@ -4,13 +4,15 @@ use mathlib.Core.List.{List}
 use mathlib.Core.Path.{_≡_, refl, sym, ap, _∙_}
 use Prim.Native.Nat.{ℕ, _-_, _≤_}
 use native.Mathlib.Omega.{arith}
-use Rattle.rule.specs.declared.Verdict.{Verdict}
+use Rattle.refusal.specs.declared.Verdict.{Verdict}
 use Rattle.rule.specs.Kind.{wordsOf}
 use Rattle.rule.specs.Table.{nodeRows, kindAt}
-use Rattle.rule.specs.Check.{_andThen_, rowNo, refused, rows as rowsOf, usedOnce}
+use Rattle.refusal.specs.Refusal.{_andThen_}
+use Rattle.rule.specs.Check.{rowNo, refused, rows as rowsOf, usedOnce}
 use Rattle.rule.specs.Marks.{markWords, marked, onceMarked}
 use Rattle.rule.proofs.Marking.{marked-next, marks-then}
-use Rattle.rule.proofs.Scans.{numberedFrom, numbered-hit, numbered-miss, scan-start, scan-end}
+use Rattle.refusal.proofs.Scans.{scan-start, scan-end}
+use Rattle.rule.proofs.Scans.{numberedFrom, numbered-hit, numbered-miss}
 use Rattle.rule.proofs.scan_rows.Statement.{statement}
 use Rattle.rule.proofs.scan_rows.Tie as tie
 

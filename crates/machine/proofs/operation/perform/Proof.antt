@@ -1,51 +1,50 @@
 -- `perform`: each arm is its operation's rule; that the words are formed bounds its registers.
 -- Assumes nothing.
 use lib.ListN.{List·getD-eq-default}
-use native.Mathlib.Omega.{arith}
-use Rattle.instruction.proofs.Forms.{above, registers-below}
-use Rattle.instruction.specs.Instruction.{formed, operations}
+use Rattle.instruction.proofs.Forms.{others, registers-below}
+use Rattle.instruction.specs.Instruction.{formed, operationOf, operations}
 use Rattle.machine.specs.Step.{perform}
 use borrow.Author.Needs.{needs}
 use Rattle.machine.proofs.operation.perform.Statement.{statement}
 use Rattle.machine.proofs.operation.perform.Tie as tie
 
 add-requires : tie.Need-add-requires
-unfolding formed operations
+unfolding formed operationOf operations
 add-requires c κs = let h = registers-below (c .before .before .before .args .a) (c .before .before .before .args .b) (c .before .before .before .args .c) (rw (c .before .match .keys3) at (c .before .before .before .pre .0)) in (h .0, h .1, h .2, c .before .before .before .pre .1)
 
 addi-requires : tie.Need-addi-requires
-unfolding formed operations
+unfolding formed operationOf operations
 addi-requires c κs = let h = registers-below (c .before .before .before .args .a) 0 (c .before .before .before .args .c) (rw (c .before .match .keys4) at (c .before .before .before .pre .0)) in (h .0, h .2, c .before .before .before .pre .1)
 
 sub-requires : tie.Need-sub-requires
-unfolding formed operations
+unfolding formed operationOf operations
 sub-requires c κs = let h = registers-below (c .before .before .before .args .a) (c .before .before .before .args .b) (c .before .before .before .args .c) (rw (c .before .match .keys5) at (c .before .before .before .pre .0)) in (h .0, h .1, h .2, c .before .before .before .pre .1)
 
 mul-requires : tie.Need-mul-requires
-unfolding formed operations
+unfolding formed operationOf operations
 mul-requires c κs = let h = registers-below (c .before .before .before .args .a) (c .before .before .before .args .b) (c .before .before .before .args .c) (rw (c .before .match .keys6) at (c .before .before .before .pre .0)) in (h .0, h .1, h .2, c .before .before .before .pre .1)
 
 load-requires : tie.Need-load-requires
-unfolding formed operations
+unfolding formed operationOf operations
 load-requires c κs = let h = registers-below (c .before .before .before .before .args .a) (c .before .before .before .before .args .b) (c .before .before .before .before .args .c) (rw (c .before .before .match .keys7) at (c .before .before .before .before .pre .0)) in (h .0, h .1, h .2, c .before .before .before .before .pre .1, c .before .before .before .before .pre .2)
 
 store-requires : tie.Need-store-requires
-unfolding formed operations
+unfolding formed operationOf operations
 store-requires c κs = let h = registers-below (c .before .before .before .before .args .a) (c .before .before .before .before .args .b) (c .before .before .before .before .args .c) (rw (c .before .before .match .keys8) at (c .before .before .before .before .pre .0)) in (h .2, h .0, h .1, c .before .before .before .before .pre .1, c .before .before .before .before .pre .2)
 
 jump-requires : tie.Need-jump-requires
 jump-requires c κs = search needs
 
 bne-requires : tie.Need-bne-requires
-unfolding formed operations
+unfolding formed operationOf operations
 bne-requires c κs = let h = registers-below (c .before .before .before .args .a) (c .before .before .before .args .b) 0 (rw (c .before .match .keys10) at (c .before .before .before .pre .0)) in (h .0, h .1, c .before .before .before .pre .1)
 
 beq-requires : tie.Need-beq-requires
-unfolding formed operations
+unfolding formed operationOf operations
 beq-requires c κs = let h = registers-below (c .before .before .before .args .a) (c .before .before .before .args .b) 0 (rw (c .before .match .keys11) at (c .before .before .before .pre .0)) in (h .0, h .1, c .before .before .before .pre .1)
 
 slt-requires : tie.Need-slt-requires
-unfolding formed operations
+unfolding formed operationOf operations
 slt-requires c κs = let h = registers-below (c .before .before .before .args .a) (c .before .before .before .args .b) (c .before .before .before .args .c) (rw (c .before .match .keys12) at (c .before .before .before .pre .0)) in (h .0, h .1, h .2, c .before .before .before .pre .1)
 
 returns : tie.Need-returns
@@ -104,7 +103,7 @@ returns-12 c p = rw (c .before .before .match .keys12, c .slt .ensures .0 p, c .
 
 returns-13 : tie.Need-returns-13
 unfolding perform
-returns-13 c p = rw (List·getD-eq-default _ _ (above 11 _ (above 10 _ (above 9 _ (above 8 _ (above 7 _ (above 6 _ (above 5 _ (above 4 _ (above 3 _ (above 2 _ (above 1 _ (above 0 _ (omega arith) (c .match .rest .0 .0 .0 .0 .0 .0 .0 .0 .0 .0 .0 .1)) (c .match .rest .0 .0 .0 .0 .0 .0 .0 .0 .0 .0 .1)) (c .match .rest .0 .0 .0 .0 .0 .0 .0 .0 .0 .1)) (c .match .rest .0 .0 .0 .0 .0 .0 .0 .0 .1)) (c .match .rest .0 .0 .0 .0 .0 .0 .0 .1)) (c .match .rest .0 .0 .0 .0 .0 .0 .1)) (c .match .rest .0 .0 .0 .0 .0 .1)) (c .match .rest .0 .0 .0 .0 .1)) (c .match .rest .0 .0 .0 .1)) (c .match .rest .0 .0 .1)) (c .match .rest .0 .1)) (c .match .rest .1)))
+returns-13 c p = rw (List·getD-eq-default _ _ (others _ 12 _ (c .match .rest)))
 
 pub perform-spec : {M : Type 1} → statement M
 perform-spec =
