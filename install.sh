@@ -25,7 +25,7 @@ includedir=\${prefix}/include
 libdir=\${prefix}/lib
 
 Name: sauskinna
-Description: Compiles station rules (IMP tables) to ASM, and runs ASM under a budget
+Description: Compiles station rules (IMP tables) to ASM, lists ASM, and runs it under a budget
 Version: $(version)
 Cflags: -I"\${includedir}"
 Libs: -L"\${libdir}" -lsauskinna

@@ -7,19 +7,21 @@
 #include <string.h>
 #include <time.h>
 
+#include "codes.h"
 #include "plain.h"
 #include "rules.h"
 #include "sauskinna.h"
 #include "sides.h"
 
 const struct side sides[SIDES] = {
-    [LIBRARY] = {"library", sauskinna_compile, sauskinna_run, sauskinna_step},
-    [PLAIN_C] = {"plain C", plain_compile, plain_run, plain_step},
-    [C_SWITCH] = {"C switch", NULL, switch_run, NULL},
-    [C_GOTO] = {"C goto", NULL, goto_run, NULL},
-    [C_THREADED] = {"C threaded", NULL, threaded_run, NULL},
+    [LIBRARY] = {"library", sauskinna_compile, sauskinna_run, sauskinna_step, sauskinna_listing},
+    [PLAIN_C] = {"plain C", plain_compile, plain_run, plain_step, plain_listing},
+    [C_SWITCH] = {"C switch", NULL, switch_run, NULL, NULL},
+    [C_GOTO] = {"C goto", NULL, goto_run, NULL, NULL},
+    [C_THREADED] = {"C threaded", NULL, threaded_run, NULL, NULL},
+    [C_SNPRINTF] = {"C snprintf", NULL, NULL, NULL, snprintf_listing},
 #ifdef WITH_RUST
-    [PLAIN_RUST] = {"plain Rust", plain_rust_compile, plain_rust_run, plain_rust_step},
+    [PLAIN_RUST] = {"plain Rust", plain_rust_compile, plain_rust_run, plain_rust_step, NULL},
 #endif
 };
 
@@ -68,9 +70,31 @@ static uint32_t step_on(const struct side *side, struct task *t)
     return side->step(t->code, t->code_words, t->memory, t->cells, &t->place, t->registers, t->answer);
 }
 
+/* The code that is listed, and its text: too large for a task. */
+static int32_t listed[SAUSKINNA_CODE_WORDS];
+static uint8_t text[SAUSKINNA_LINE * SAUSKINNA_CODE_WORDS / 4];
+static size_t text_bytes;
+
+static uint32_t list_once(const struct side *side, struct task *t)
+{
+    return side->listing(listed, t->code_words, text, text_bytes, t->answer);
+}
+
+/* The same of a long code, for which the slow side takes too long. */
+static uint32_t list_long(const struct side *side, struct task *t)
+{
+    return list_once(side, t);
+}
+
 static int can(const struct side *side, call_function *call)
 {
-    return call == compile_once ? side->compile != NULL : call == step_on ? side->step != NULL : side->run != NULL;
+    if (call == compile_once)
+        return side->compile != NULL;
+    if (call == step_on)
+        return side->step != NULL;
+    if (call == list_once)
+        return side->listing != NULL;
+    return call == list_long ? side->listing != NULL && side != &sides[C_SNPRINTF] : side->run != NULL;
 }
 
 /* ---- Results ---- */
@@ -122,13 +146,19 @@ static double sample(call_function *call, const struct side *side, struct task *
     return (now() - start) / calls;
 }
 
-/* Calls that take a millisecond or more. */
+/* Calls of the library that take a millisecond or more. */
 static unsigned enough_calls(call_function *call, struct task *t)
 {
     unsigned calls = 1;
     while (sample(call, &sides[LIBRARY], t, calls) * calls < 1e6)
         calls *= 2;
     return calls;
+}
+
+/* The slow side takes about fifteen times as long. */
+static unsigned calls_of(int side, unsigned calls)
+{
+    return side == C_SNPRINTF ? 1 + calls / 16 : calls;
 }
 
 static int by_size(const void *x, const void *y)
@@ -145,7 +175,7 @@ static double median(double numbers[ROUNDS])
 
 struct figure {
     const char *table, *row;
-    uint32_t units; /* steps, budget or rows */
+    uint32_t units; /* steps, budget, rows or lines */
     uint32_t parts; /* what the time of a call is divided by */
 };
 
@@ -159,7 +189,7 @@ static void measure(const struct figure *f, call_function *call, struct task *t)
         for (int i = 0; i < SIDES; i++) {
             int side = (round + i) % SIDES;
             if (can(&sides[side], call))
-                samples[side][round] = sample(call, &sides[side], t, calls);
+                samples[side][round] = sample(call, &sides[side], t, calls_of(side, calls));
         }
         for (int side = 0; side < SIDES; side++)
             ratios[side][round] = samples[LIBRARY][round] / samples[side][round];
@@ -173,8 +203,8 @@ static void measure(const struct figure *f, call_function *call, struct task *t)
 /* Where the code of each side lies, in bytes behind a multiple of 64. */
 static void print_placement(void)
 {
-    for (int side = 0; side < SIDES; side++)
-        printf("placed\t%s\t%d\n", sides[side].name, (int)((uintptr_t)sides[side].run % 64));
+    for (const struct side *side = sides; side < sides + SIDES; side++)
+        printf("placed\t%s\t%d\n", side->name, (int)((side->run != NULL ? (uintptr_t)side->run : (uintptr_t)side->listing) % 64));
 }
 
 /* ---- The benchmark ---- */
@@ -231,13 +261,43 @@ static void bench_compile(const char *what, void (*build)(struct rule *, size_t)
     }
 }
 
+/* How long the text is that is lent: with room for any listing of so many lines, or for this one alone. */
+enum room { ANY, EXACT };
+
+/* What the sides leave is compared by try_listings. */
+static void bench_listing(const char *what, void (*build)(int32_t *, uint32_t), uint32_t lines, enum room room, call_function *call)
+{
+    memset(&task, 0, sizeof task);
+    text_bytes = sizeof text;
+    build(listed, lines);
+    task.code_words = 4 * (size_t)lines;
+    if (call(&sides[LIBRARY], &task) != 0)
+        differs(&sides[LIBRARY], what);
+    printf("bytes\t%s\t%" PRIu32 "\t%" PRIu32 "\n", what, lines, task.answer[SAUSKINNA_ANSWER_BYTES]);
+    if (room == EXACT)
+        text_bytes = task.answer[SAUSKINNA_ANSWER_BYTES];
+    measure(&(struct figure){"listing", what, lines, lines}, call, &task);
+}
+
+static void bench_listings(void)
+{
+    enum { FEW = 1024, MOST = SAUSKINNA_CODE_WORDS / 4 };
+    bench_listing("compiled code", compiled_code, FEW, ANY, list_once);
+    bench_listing("compiled code", compiled_code, MOST, ANY, list_long);
+    bench_listing("the same, no byte to spare", compiled_code, FEW, EXACT, list_once);
+    bench_listing("every line named", jumps, FEW, ANY, list_once);
+    bench_listing("every line named", jumps, MOST, ANY, list_long);
+}
+
 int main(int argc, char **argv)
 {
     timed = !(argc == 2 && strcmp(argv[1], "--check") == 0);
-    if (timed)
+    if (timed) {
         print_placement();
-    else
+    } else {
         try_codes();
+        try_listings();
+    }
     bench_run("arithmetic loop", arithmetic_loop);
     bench_run("sieve over an array", sieve);
     bench_run("nested ifs", nested_ifs);
@@ -253,7 +313,9 @@ int main(int argc, char **argv)
     bench_compile("left-nested sequences", wide);
     bench_compile("the same, 256 names", wide_over_256);
     bench_compile("right-nested sequences", right_nested);
-    if (!timed)
+    if (timed)
+        bench_listings();
+    else
         puts(differences == 0 ? "results: equal on all sides" : "results: DIFFERENT");
     return differences == 0 ? EXIT_SUCCESS : EXIT_FAILURE;
 }

@@ -1,5 +1,5 @@
 # count.awk: makes a table of bench/count's figures. A line of them: what is counted, the unit, the side, how many units, and the
-# instructions of one call and of two.
+# instructions for those and for twice as many.
 BEGIN { FS = "\t" }
 
 $2 != unit { finish(); unit = $2; sides = rows = 0 }

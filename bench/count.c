@@ -1,20 +1,23 @@
-/* count.c: has a side run or compile a rule so many times, for bench/count, which counts the processor's instructions; without words it
-   lists what there is to count. */
+/* count.c: has a side run or compile a rule, or list code, once or twice, for bench/count, which counts the processor's instructions;
+   without words it says what there is to count. */
 #include <inttypes.h>
 #include <stdio.h>
 #include <stdlib.h>
 
+#include "codes.h"
 #include "plain.h"
 #include "rules.h"
 #include "sauskinna.h"
 #include "sides.h"
 
 static const struct side counted[] = {
-    {"library", sauskinna_compile, sauskinna_run, NULL}, {"plain C", plain_compile, plain_run, NULL},
-    {"C switch", NULL, switch_run, NULL},                {"C goto", NULL, goto_run, NULL},
+    {"library", sauskinna_compile, sauskinna_run, NULL, sauskinna_listing},
+    {"plain C", plain_compile, plain_run, NULL, plain_listing},
+    {"C switch", NULL, switch_run, NULL, NULL},
+    {"C goto", NULL, goto_run, NULL, NULL},
 };
 
-enum { STEPS = 1300, ROWS = 256, COUNTED = sizeof counted / sizeof counted[0] };
+enum { STEPS = 1300, ROWS = 256, LINES = 1024, COUNTED = sizeof counted / sizeof counted[0] };
 
 /* Runs from place 0 under a budget: steps of a long one, or short ones as a whole. */
 struct run {
@@ -48,13 +51,28 @@ static const struct compilation compilations[] = {
     {"right-nested sequences", right_nested},
 };
 
-enum { RUNS = sizeof runs / sizeof runs[0], COMPILATIONS = sizeof compilations / sizeof compilations[0] };
+struct listing {
+    const char *name;
+    void (*build)(int32_t *, uint32_t);
+};
+
+static const struct listing listings[] = {
+    {"compiled code", compiled_code},
+    {"every line named", jumps},
+};
+
+enum {
+    RUNS = sizeof runs / sizeof runs[0],
+    COMPILATIONS = sizeof compilations / sizeof compilations[0],
+    LISTINGS = sizeof listings / sizeof listings[0]
+};
 
 static struct rule rule;
 static int32_t code[SAUSKINNA_ROOM(SAUSKINNA_ROWS)], memory[SAUSKINNA_CELLS], registers[SAUSKINNA_REGISTERS];
 static uint32_t answer[SAUSKINNA_ANSWER_WORDS];
 
-static uint32_t compile_by(const struct side *side)
+/* Inline, so that what the caller adds to a count stays the same as this file grows. */
+static inline uint32_t compile_by(const struct side *side)
 {
     return side->compile(rule.declarations, rule.declaration_words, rule.nodes, rule.node_words, UINT64_MAX - 1, code,
                          SAUSKINNA_ROOM(SAUSKINNA_ROWS), answer);
@@ -78,16 +96,32 @@ static void count_compilations(const struct side *side, const struct compilation
         compile_by(side);
 }
 
-/* A line for each: what is counted, the unit's name, how many units, which side, and the two words to call it by. */
+/* One call, of so many times the lines: what it takes for no line, such as clearing 65,536 marks, is in one count as in the other. */
+static void count_listings(const struct side *side, const struct listing *listing, int times)
+{
+    static int32_t codes[2][2 * 4 * LINES];
+    static uint8_t text[SAUSKINNA_LINE * 2 * LINES];
+    listing->build(codes[0], LINES);
+    listing->build(codes[1], 2 * LINES);
+    side->listing(codes[times - 1], 4 * LINES * (size_t)times, text, sizeof text, answer);
+}
+
+/* What is counted, the unit's name, how many units, which side, and the two words to call it by. */
+static void print_task(const char *what, const char *unit, uint32_t units, int task, int side)
+{
+    printf("%s\t%s\t%" PRIu32 "\t%s\t%d\t%d\n", what, unit, units, counted[side].name, task, side);
+}
+
 static void list(void)
 {
-    for (int task = 0; task < RUNS + COMPILATIONS; task++)
+    for (int task = 0; task < RUNS + COMPILATIONS + LISTINGS; task++)
         for (int side = 0; side < COUNTED; side++)
             if (task < RUNS)
-                printf("%s\t%s\t%" PRIu32 "\t%s\t%d\t%d\n", runs[task].name, runs[task].unit, runs[task].units, counted[side].name, task,
-                       side);
-            else if (counted[side].compile != NULL)
-                printf("%s\trow\t%d\t%s\t%d\t%d\n", compilations[task - RUNS].name, ROWS, counted[side].name, task, side);
+                print_task(runs[task].name, runs[task].unit, runs[task].units, task, side);
+            else if (task < RUNS + COMPILATIONS && counted[side].compile != NULL)
+                print_task(compilations[task - RUNS].name, "row", ROWS, task, side);
+            else if (task >= RUNS + COMPILATIONS && counted[side].listing != NULL)
+                print_task(listings[task - RUNS - COMPILATIONS].name, "line", LINES, task, side);
 }
 
 int main(int words, char **word)
@@ -99,7 +133,9 @@ int main(int words, char **word)
     int task = atoi(word[1]), side = atoi(word[2]), times = atoi(word[3]);
     if (task < RUNS)
         count_runs(&counted[side], &runs[task], times);
-    else
+    else if (task < RUNS + COMPILATIONS)
         count_compilations(&counted[side], &compilations[task - RUNS], times);
+    else
+        count_listings(&counted[side], &listings[task - RUNS - COMPILATIONS], times);
     return 0;
 }

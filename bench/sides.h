@@ -8,6 +8,7 @@
 typedef uint32_t compile_function(const int32_t *, size_t, const int32_t *, size_t, uint64_t, int32_t *, size_t, uint32_t[3]);
 typedef uint32_t run_function(const int32_t *, size_t, int32_t *, size_t, uint32_t *, int32_t[64], uint32_t, uint32_t[3]);
 typedef uint32_t step_function(const int32_t *, size_t, int32_t *, size_t, uint32_t *, int32_t[64], uint32_t[3]);
+typedef uint32_t listing_function(const int32_t *, size_t, uint8_t *, size_t, uint32_t[3]);
 
 /* A function is NULL where a side has none. */
 struct side {
@@ -15,6 +16,7 @@ struct side {
     compile_function *compile;
     run_function *run;
     step_function *step;
+    listing_function *listing;
 };
 
 enum {
@@ -23,6 +25,7 @@ enum {
     C_SWITCH,
     C_GOTO,
     C_THREADED,
+    C_SNPRINTF,
 #ifdef WITH_RUST
     PLAIN_RUST,
 #endif
@@ -36,5 +39,8 @@ void differs(const struct side *side, const char *what);
 
 /* Has every side run and step codes of one or two instructions. */
 void try_codes(void);
+
+/* Has every side list codes. */
+void try_listings(void);
 
 #endif

@@ -85,6 +85,8 @@ static void try_one(const struct trial *t)
 {
     struct machine ran = run_on(&sides[LIBRARY], t), stepped = step_on(&sides[LIBRARY], t), found;
     for (const struct side *side = sides + 1; side < sides + SIDES; side++) {
+        if (side->run == NULL)
+            continue;
         found = run_on(side, t);
         compare(side, &found, &ran, t->what);
         if (side->step == NULL)

@@ -1,4 +1,4 @@
-/* station.c: a station host that compiles the antenna-change rule and runs it epoch by epoch beside its own registers. */
+/* station.c: a station host that compiles the antenna-change rule, lists its code, and runs it epoch by epoch beside its own registers. */
 #include <inttypes.h>
 #include <stdio.h>
 #include <stdlib.h>
@@ -32,7 +32,7 @@ static const int32_t nodes[] = {
 };
 
 enum { DECLARATION_WORDS = sizeof declarations / sizeof declarations[0], NODE_WORDS = sizeof nodes / sizeof nodes[0] };
-enum { CELLS = 4, CODE_WORDS = SAUSKINNA_ROOM(NODE_WORDS / 4) };
+enum { CELLS = 4, CODE_WORDS = SAUSKINNA_ROOM(NODE_WORDS / 4), TEXT_BYTES = SAUSKINNA_LINE * CODE_WORDS / 4 };
 
 /* $24 to $63 are the host's 40; the rule may use $1 to $23. */
 enum { FIRST_OWN = 24 };
@@ -75,6 +75,19 @@ static int prepare(struct station *s)
     for (int k = 0; k < SAUSKINNA_REGISTERS; k++)
         s->registers[k] = own_value(k);
     return answer[SAUSKINNA_ANSWER_CELLS] == CELLS;
+}
+
+/* Prints the code, as it goes into the change log. */
+static int show_listing(const struct station *s)
+{
+    uint8_t text[TEXT_BYTES];
+    uint32_t answer[SAUSKINNA_ANSWER_WORDS];
+    uint32_t refusal = sauskinna_listing(s->code, s->code_words, text, TEXT_BYTES, answer);
+    if (refusal != SAUSKINNA_ACCEPTED) {
+        printf("the listing is refused with number %" PRIu32 ", value %" PRIu32 "\n", refusal, answer[SAUSKINNA_ANSWER_VALUE]);
+        return 0;
+    }
+    return fwrite(text, 1, answer[SAUSKINNA_ANSWER_BYTES], stdout) == answer[SAUSKINNA_ANSWER_BYTES];
 }
 
 /* A pool of three registers is too small, and the refusal says how many it takes. */
@@ -167,7 +180,7 @@ int main(void)
         {36000, 0, 0}, {41400, 5, 45}, {25200, -3, -30}, {61200, 9, 30}, {32399, 1, 0},
     };
     static struct station s;
-    int fine = prepare(&s);
+    int fine = prepare(&s) && show_listing(&s);
     for (size_t i = 0; fine && i < sizeof epochs / sizeof epochs[0]; i++)
         fine = run_epoch(&s, &epochs[i]);
     fine = show_refusal() && fine;

@@ -1,10 +1,11 @@
-// station.rs: a station host in Rust that compiles the antenna-change rule and runs it epoch by epoch beside its own registers.
+// station.rs: a station host in Rust that compiles the antenna-change rule, lists its code, and runs it epoch by epoch beside its own
+// registers.
 
 use std::process::ExitCode;
 
 use sauskinna::declaration::{CONSTANT, VARIABLE};
 use sauskinna::node::{ASSIGN, IDENTIFIER, MINUS, PLUS, TIMES};
-use sauskinna::{compile, Ending, Machine, Reason, Refusal, Stepped, REGISTERS};
+use sauskinna::{compile, listing, Ending, Machine, Reason, Refusal, Stepped, REGISTERS};
 
 // The rule: cut_over := local_time - (zone_hours * 3600 + zone_minutes * 60).
 const LOCAL_TIME: usize = 0;
@@ -163,6 +164,7 @@ fn run_station() -> Result<bool, Refusal> {
         compiled.need,
         POOL.count_ones(),
     );
+    print!("{}", listing(&code)?);
     let mut machine = Machine {
         place: 0,
         registers: std::array::from_fn(own_value),

@@ -1,4 +1,4 @@
-/* sauskinna.h: compiles station rules (IMP tables) to ASM, and runs ASM under a budget. C99 and C++. */
+/* sauskinna.h: compiles station rules (IMP tables) to ASM, lists ASM, and runs it under a budget. C99 and C++. */
 #ifndef SAUSKINNA_H
 #define SAUSKINNA_H
 
@@ -12,9 +12,9 @@ extern "C" {
 /*
  * Conventions
  *
- * Counts    Every length is a count of 32-bit words, never of bytes. A word is
- *           a signed 32-bit value. Sums, differences and products wrap modulo
- *           2^32; comparison is signed.
+ * Counts    Every length is a count of 32-bit words, never of bytes; only that
+ *           of a text is in bytes. A word is a signed 32-bit value. Sums,
+ *           differences and products wrap modulo 2^32; comparison is signed.
  * Owner     The caller owns every buffer. The library reads and writes only
  *           within the lengths given, keeps no pointer and allocates nothing.
  *           Pointers are aligned as their type asks, not NULL (even where a
@@ -22,29 +22,31 @@ extern "C" {
  *           That is all that is asked: any length and any content is taken.
  * Answer    answer is always written, all three words.
  * Return    0, or the number of a refusal. A refused call changes nothing but
- *           the answer: no code word, no cell, no register, not the place.
+ *           the answer: no code word, no cell, no register, not the place, no
+ *           byte of a text.
  * Threads   There is no state between calls. Calls from several threads need
  *           no lock as long as their buffers are their own; what is const may
  *           be shared.
  * Stack     A rule is compiled by recursion. SAUSKINNA_STACK bytes of stack are
- *           enough for any call, SAUSKINNA_STACK_RUN for step and run.
+ *           enough for any call, SAUSKINNA_STACK_RUN for step and run,
+ *           SAUSKINNA_STACK_LISTING for listing.
  * Time      Compiling takes time in proportion to the rows handed in; a run,
- *           to its steps.
+ *           to its steps; a listing, to its instructions.
  * Linking   The archive asks for memcpy and memset, and for nothing else.
  */
 
 /*
- * The version of this header, first number times 1,000 plus second: 1.0. A
+ * The version of this header, first number times 1,000 plus second: 1.1. A
  * program that was built with one header and linked with another's archive sees
  * it by comparing this with what sauskinna_version returns.
  */
-#define SAUSKINNA_VERSION 1000
+#define SAUSKINNA_VERSION 1001
 
 /* Limits. */
 #define SAUSKINNA_DECLARATIONS 256  /* declaration rows, two words each */
 #define SAUSKINNA_ROWS 1024         /* node rows, four words each */
 #define SAUSKINNA_CELLS 65536       /* cells of memory, and of all declarations together */
-#define SAUSKINNA_CODE_WORDS 262144 /* code words that run and step take */
+#define SAUSKINNA_CODE_WORDS 262144 /* code words that run, step and listing take */
 #define SAUSKINNA_REGISTERS 64      /* $0 to $63; $0 reads as 0 */
 
 /*
@@ -52,6 +54,12 @@ extern "C" {
  * gives at most four instructions of four words, and the end one more.
  */
 #define SAUSKINNA_ROOM(rows) (16 * (size_t)(rows) + 4)
+
+/*
+ * Bytes of the longest line that a listing can have, its newline among them: a
+ * text of this many for each instruction holds the listing of any code.
+ */
+#define SAUSKINNA_LINE 33
 
 /*
  * Bytes of stack, from the caller's frame on, that are enough whatever is
@@ -64,12 +72,15 @@ extern "C" {
  *
  * in the three passes that work out the registers needed and the instructions
  * and then emit them, one after the other. The deepest rule (480 commands
- * within each other around 62 nots) takes 119,959. Step and run take 215. The
- * rest is a reserve. What the system keeps on a thread's stack (3 to 5 KB with
- * glibc) comes on top, and so do handlers of signals that run on it.
+ * within each other around 62 nots) takes 119,959. Step and run take 215.
+ * Listing takes 65,823, a byte for each of 65,536 places among them, however
+ * short the code. The rest is a reserve. What the system keeps on a thread's
+ * stack (3 to 5 KB with glibc) comes on top, and so do handlers of signals that
+ * run on it.
  */
-#define SAUSKINNA_STACK 122880  /* any call */
-#define SAUSKINNA_STACK_RUN 512 /* step and run */
+#define SAUSKINNA_STACK 122880        /* any call */
+#define SAUSKINNA_STACK_RUN 512       /* step and run */
+#define SAUSKINNA_STACK_LISTING 69632 /* listing */
 
 /* Declarations: (kind, value). Cells are given out from address 0 in row order. */
 enum sauskinna_declaration {
@@ -127,7 +138,8 @@ enum sauskinna_answer {
     SAUSKINNA_ANSWER_INSTRUCTIONS = 0, /* compile, accepted: instructions emitted */
     SAUSKINNA_ANSWER_CELLS = 1,        /* compile, accepted: cells that the declarations take */
     SAUSKINNA_ANSWER_NEED = 2,         /* compile, accepted: registers that the rule needs */
-    SAUSKINNA_ANSWER_VALUE = 0,        /* compile, refused: the refusal's value; the others are 0 */
+    SAUSKINNA_ANSWER_BYTES = 0,        /* listing, accepted: bytes written; the others are 0 */
+    SAUSKINNA_ANSWER_VALUE = 0,        /* compile, listing, refused: the refusal's value; the others are 0 */
     SAUSKINNA_ANSWER_ENDING = 0,       /* step, run: how it ended */
     SAUSKINNA_ANSWER_FAULT = 1,        /* step, run: the fault's number, or 0 */
     SAUSKINNA_ANSWER_STEPS = 2,        /* step, run: steps taken */
@@ -145,7 +157,8 @@ enum sauskinna_ending {
 /*
  * Refusals, in the order in which they are looked for. Declarations and then
  * node rows are read from row 0; the first bad row decides, and within a row
- * the lowest number. After the colon stands the value that compile answers.
+ * the lowest number. After the colon stands the value that compile and listing
+ * answer.
  */
 enum sauskinna_refusal {
     SAUSKINNA_ACCEPTED = 0,
@@ -162,8 +175,11 @@ enum sauskinna_refusal {
     SAUSKINNA_REFUSED_USES = 10,             /* a row but the last not used exactly once: the lowest such row */
     SAUSKINNA_REFUSED_REGISTERS = 11,        /* too few in the pool: the registers needed */
     SAUSKINNA_REFUSED_ROOM = 12,             /* code buffer too short: the instructions needed */
-    SAUSKINNA_REFUSED_CODE_WORDS = 13,       /* step, run: not a multiple of 4, or above 262,144 */
-    SAUSKINNA_REFUSED_MEMORY = 14            /* step, run: above 65,536 cells */
+    SAUSKINNA_REFUSED_CODE_WORDS = 13,       /* step, run, listing: not a multiple of 4, or above 262,144: 0 */
+    SAUSKINNA_REFUSED_MEMORY = 14,           /* step, run: above 65,536 cells */
+    SAUSKINNA_REFUSED_INSTRUCTION = 21,      /* listing: a form of fault 2, or a label outside the code, whether the jump
+                                                would be taken or not: the lowest such instruction's number */
+    SAUSKINNA_REFUSED_TEXT_ROOM = 22         /* listing: text too short: the bytes needed */
 };
 
 /*
@@ -241,6 +257,28 @@ uint32_t sauskinna_step(const int32_t *code, size_t code_words,
 uint32_t sauskinna_run(const int32_t *code, size_t code_words,
                        int32_t *memory, size_t cells, uint32_t *place,
                        int32_t registers[SAUSKINNA_REGISTERS], uint32_t budget, uint32_t answer[SAUSKINNA_ANSWER_WORDS]);
+
+/*
+ * Lists code: a line of text for each instruction.
+ *
+ *   code, code_words   as for sauskinna_step
+ *   text, text_bytes   receives the listing; bytes beyond it stay as they are,
+ *                      and no zero is put behind it. SAUSKINNA_LINE bytes for
+ *                      each instruction are enough.
+ *
+ * The words of a line are parted by one blank, and byte 10 ends it:
+ *
+ *   halt              addi $1 -2 $3      load $1 $2[$0]     jmp L7
+ *   nop               add $1 $2 $3       store $2[$0] $1    bne $1 $2 L7
+ *
+ * Sub, mul and slt are written as add is, beq as bne. A line that a jump names,
+ * taken or not, starts with its label, a colon and a blank: "L7: halt".
+ *
+ * Accepted: returns 0; answer is the bytes written, 0, 0.
+ * Refused: returns 13, 21 or 22; answer is the refusal's value, 0, 0.
+ */
+uint32_t sauskinna_listing(const int32_t *code, size_t code_words,
+                           uint8_t *text, size_t text_bytes, uint32_t answer[SAUSKINNA_ANSWER_WORDS]);
 
 #ifdef __cplusplus
 }

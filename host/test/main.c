@@ -22,6 +22,9 @@ static const struct subject {
     {"rules", test_rules},         /* generated rules */
     {"tables", test_tables},       /* generated tables that are mostly no rules */
     {"codes", test_codes},         /* generated code */
+    {"listing", test_listing},     /* the lines of a listing, and refusal 22 */
+    {"unlisted", test_unlisted},   /* refusals 13 and 21 of a listing */
+    {"listings", test_listings},   /* listings of generated code */
     {"stack", test_stack},         /* the bytes of stack that a call takes */
 };
 

@@ -1,6 +1,8 @@
 /* stack.c: the bytes of stack that a call takes, a level and in all, beside those that the header asks for. */
 #include <stdio.h>
+#include <stdlib.h>
 
+#include "assembling.h"
 #include "compiling.h"
 #include "machines.h"
 #include "reading.h"
@@ -260,9 +262,67 @@ static void machine_calls(void)
     end_machine(&step.machine);
 }
 
+/* ---- Listing ---- */
+
+struct listing_call {
+    struct code code;
+    uint8_t *text;
+    size_t text_bytes;
+    uint32_t number;
+};
+
+static void listing_work(void *argument)
+{
+    struct listing_call *c = argument;
+    uint32_t answer[SAUSKINNA_ANSWER_WORDS];
+    c->number = sauskinna_listing(c->code.words, c->code.count, c->text, c->text_bytes, answer);
+}
+
+/* Every operation, the longest number, and the first and the last line named, in a code of all places. */
+static int32_t *longest_code(void)
+{
+    int32_t *code = nops(INSTRUCTION_LIMIT);
+    for (size_t i = 0; i < sizeof every_operation / sizeof every_operation[0]; i++)
+        code[i] = every_operation[i];
+    set_at(code, INSTRUCTION_LIMIT - 3, WORDS(SAUSKINNA_JMP, 0, 0, 0));
+    set_at(code, INSTRUCTION_LIMIT - 2, WORDS(SAUSKINNA_JMP, INSTRUCTION_LIMIT - 1, 0, 0));
+    set_at(code, INSTRUCTION_LIMIT - 1, WORDS(SAUSKINNA_ADDI, 63, INT32_MIN, 63));
+    return code;
+}
+
+/* The call returns this number, and the stack that it takes is what the header asks for, at most. */
+static size_t listing_taken(struct listing_call c, uint32_t number)
+{
+    size_t taken = stack_taken(listing_work, &c);
+    SAME(c.number, number);
+    CHECK(taken <= SAUSKINNA_STACK_LISTING && taken <= SAUSKINNA_STACK);
+    if (taken <= SAUSKINNA_STACK_LISTING)
+        on_stack_of(SAUSKINNA_STACK_LISTING, listing_work, &c);
+    return taken;
+}
+
+static void listing_calls(void)
+{
+    int32_t *words = longest_code();
+    size_t room = SAUSKINNA_LINE * INSTRUCTION_LIMIT;
+    uint8_t *text = malloc(room);
+    if (text == NULL)
+        give_up("no memory");
+    struct code whole = {words, CODE_WORD_LIMIT}, none = {words, 0};
+    size_t taken = listing_taken((struct listing_call){whole, text, room, 0}, SAUSKINNA_ACCEPTED);
+    printf("stack, listing: %zu bytes for 65,536 instructions, %zu for none; the header asks for %d\n", taken,
+           listing_taken((struct listing_call){none, text, 0, 0}, SAUSKINNA_ACCEPTED), SAUSKINNA_STACK_LISTING);
+    listing_taken((struct listing_call){whole, text, 0, 0}, SAUSKINNA_REFUSED_TEXT_ROOM);
+    set_at(words, INSTRUCTION_LIMIT - 1, WORDS(SAUSKINNA_JMP, INSTRUCTION_LIMIT, 0, 0));
+    listing_taken((struct listing_call){whole, text, room, 0}, SAUSKINNA_REFUSED_INSTRUCTION);
+    free(words);
+    free(text);
+}
+
 void test_stack(void)
 {
     levels();
     deepest_rules();
     machine_calls();
+    listing_calls();
 }

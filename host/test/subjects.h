@@ -14,6 +14,9 @@ void test_far(void);
 void test_rules(void);
 void test_tables(void);
 void test_codes(void);
+void test_listing(void);
+void test_unlisted(void);
+void test_listings(void);
 void test_stack(void);
 
 #endif

@@ -1,7 +1,7 @@
 //! The numbers of `include/sauskinna.h`.
 
 /// The version of the library: 1000 times its first number, and its second.
-pub const VERSION: u32 = 1000;
+pub const VERSION: u32 = 1001;
 
 /// Declaration rows that a rule may have.
 pub const DECLARATIONS: usize = 256;
@@ -12,7 +12,7 @@ pub const ROWS: usize = 1024;
 /// Cells of memory, and of all declarations together.
 pub const CELLS: usize = 65_536;
 
-/// Code words that a run and a step take.
+/// Code words that a run, a step and a listing take.
 pub const CODE_WORDS: usize = 262_144;
 
 /// Registers, $0 to $63; $0 reads as 0.
@@ -23,6 +23,12 @@ pub const STACK: usize = 122_880;
 
 /// Bytes of stack that a run or a step may take.
 pub const STACK_RUN: usize = 512;
+
+/// Bytes of stack that a listing may take.
+pub const STACK_LISTING: usize = 69_632;
+
+/// Bytes of the longest line that a listing can have, its newline among them.
+pub const LINE: usize = 33;
 
 /// Code words that hold any rule of so many node rows: a row gives at most four instructions, and the end one more.
 pub const fn room(rows: usize) -> usize {
@@ -116,7 +122,9 @@ pub mod answer {
     pub const CELLS: usize = 1;
     /// Compile, accepted: registers that the rule needs.
     pub const NEED: usize = 2;
-    /// Compile, refused: the refusal's value.
+    /// Listing, accepted: bytes written.
+    pub const BYTES: usize = 0;
+    /// Compile, listing, refused: the refusal's value.
     pub const VALUE: usize = 0;
     /// Step, run: how it ended.
     pub const ENDING: usize = 0;

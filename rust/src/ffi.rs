@@ -39,4 +39,12 @@ extern "C" {
         budget: u32,
         answer: *mut Answer,
     ) -> u32;
+
+    pub fn sauskinna_listing(
+        code: *const i32,
+        code_words: usize,
+        text: *mut u8,
+        text_bytes: usize,
+        answer: *mut Answer,
+    ) -> u32;
 }

@@ -1,12 +1,12 @@
-//! Compiles station rules (IMP tables) to ASM, and runs ASM under a budget: the proved C library behind safe functions.
+//! Compiles station rules (IMP tables) to ASM, lists ASM, and runs it under a budget: the proved C library behind safe functions.
 //!
 //! A rule is two tables of words: [`declaration`] rows of two and [`node`] rows of four. [`compile`] checks them and makes
-//! code that uses only the registers of a pool, bit k for $k. A [`Machine`] runs the code over memory that the caller lends.
-//! What cannot be taken is a [`Refusal`], and a refused call changes nothing.
+//! code that uses only the registers of a pool, bit k for $k. A [`Machine`] runs the code over memory that the caller lends, and
+//! [`listing`] writes it as text. What cannot be taken is a [`Refusal`], and a refused call changes nothing.
 //!
 #![cfg_attr(sauskinna_linked, doc = "```")]
 #![cfg_attr(not(sauskinna_linked), doc = "```no_run")]
-//! use sauskinna::{compile, declaration, node, Ending, Machine, Ran};
+//! use sauskinna::{compile, declaration, listing, node, Ending, Machine, Ran};
 //!
 //! # fn main() -> Result<(), sauskinna::Refusal> {
 //! let names = [[declaration::VARIABLE, 0], [declaration::CONSTANT, 20700]];
@@ -17,6 +17,7 @@
 //!     [node::ASSIGN, 0, 2, 0], // x := x - offset
 //! ];
 //! let (code, compiled) = compile(&names, &rule, 0xff << 40)?; // the code may use $40 to $47
+//! assert!(listing(&code)?.ends_with("store $41[$0] $40\nhalt\n"));
 //!
 //! let mut memory = vec![0; compiled.cells];
 //! memory[0] = 43200;
@@ -28,7 +29,8 @@
 //! ```
 //!
 //! Words are signed and 32 bits wide; sums, differences and products wrap. There is no state between calls, so threads need no
-//! lock. A call allocates nothing, except that [`compile`] makes the code's `Vec`, and takes at most [`STACK`] bytes of stack.
+//! lock. A call allocates nothing, except that [`compile`] makes the code's `Vec` and [`listing`] its `String`, and takes at most
+//! [`STACK`] bytes of stack.
 //!
 //! The build script links the archive that `rt staticlib sauskinna` makes in the repository's `target/staticlib`, or the one in
 //! the folder that `SAUSKINNA_LIB_DIR` names.
@@ -43,12 +45,14 @@ mod compile;
 mod constants;
 mod fault;
 mod ffi;
+mod listing;
 mod machine;
 mod refusal;
 
 pub use compile::{compile, compile_into, compile_words, Compiled};
 pub use constants::*;
 pub use fault::Fault;
+pub use listing::{listing, listing_into};
 pub use machine::{Ending, Machine, Ran, Stepped};
 pub use refusal::{Reason, Refusal};
 

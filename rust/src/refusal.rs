@@ -6,7 +6,7 @@ use std::fmt;
 use crate::constants::ACCEPTED;
 
 numbered! {
-    /// Why a call was refused. [`Refusal::value`] says more from 4 to 12: a row, or what is needed.
+    /// Why a call was refused. [`Refusal::value`] says more from 4 to 12 and from 21 on: a row, an instruction, or what is needed.
     Reason {
         1 NodeWords "the node words are no multiple of 4, there is no row, or there are more than 1,024"
         2 DeclarationWords "the declaration words are odd, or there are more than 256 rows"
@@ -22,6 +22,8 @@ numbered! {
         12 Room "the code buffer is too short"
         13 CodeWords "the code words are no multiple of 4, or there are more than 262,144"
         14 Memory "there are more than 65,536 cells of memory"
+        21 Instruction "an operation is unknown, an unused word is not 0, a register is outside 0 to 63, or a label is outside the code"
+        22 TextRoom "the text buffer is too short"
     }
 }
 
@@ -30,7 +32,8 @@ numbered! {
 pub struct Refusal {
     /// Why.
     pub reason: Reason,
-    /// The row at fault (4 to 10), the registers needed (11), the instructions needed (12); otherwise 0.
+    /// The row at fault (4 to 10), the registers needed (11), the instructions needed (12), the instruction at fault (21), the
+    /// bytes needed (22); otherwise 0.
     pub value: u32,
 }
 
@@ -63,6 +66,8 @@ impl fmt::Display for Refusal {
             }
             Reason::Registers => write!(f, " ({value} needed)"),
             Reason::Room => write!(f, " ({value} instructions needed)"),
+            Reason::Instruction => write!(f, " (instruction {value})"),
+            Reason::TextRoom => write!(f, " ({value} bytes needed)"),
             Reason::Other(_) => write!(f, " (value {value})"),
             _ => Ok(()),
         }

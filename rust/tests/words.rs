@@ -2,6 +2,12 @@
 
 use sauskinna::{Fault, Reason, Refusal};
 
+/// The numbers of the reasons that there are.
+const REASONS: [u32; 16] = [1, 2, 3, 4, 5, 6, 7, 8, 9, 10, 11, 12, 13, 14, 21, 22];
+
+/// A number that is none of them.
+const UNKNOWN: u32 = 99;
+
 fn refusal(number: u32, value: u32) -> Refusal {
     Refusal {
         reason: Reason::from(number),
@@ -19,7 +25,7 @@ fn every_number_is_a_case_and_comes_back() {
         assert_eq!(refusal(number, 7).number(), number);
         assert_eq!(
             matches!(reason, Reason::Other(_)),
-            !(1..=14).contains(&number)
+            !REASONS.contains(&number)
         );
         assert_eq!(matches!(fault, Fault::Other(_)), !(1..=5).contains(&number));
     }
@@ -27,13 +33,15 @@ fn every_number_is_a_case_and_comes_back() {
 
 #[test]
 fn a_refusal_says_its_number_its_words_and_its_value() {
-    for number in 1..=15 {
+    for number in REASONS.into_iter().chain([UNKNOWN]) {
         let value = match number {
             4 | 5 => " (declaration row 7)",
             6..=10 => " (node row 7)",
             11 => " (7 needed)",
             12 => " (7 instructions needed)",
-            15 => " (value 7)",
+            21 => " (instruction 7)",
+            22 => " (7 bytes needed)",
+            UNKNOWN => " (value 7)",
             _ => "",
         };
         let words = Reason::from(number);
@@ -44,7 +52,8 @@ fn a_refusal_says_its_number_its_words_and_its_value() {
 
 #[test]
 fn words_differ() {
-    let mut said: Vec<String> = (1..=15).map(|n| Reason::from(n).to_string()).collect();
+    let reasons = REASONS.into_iter().chain([UNKNOWN]);
+    let mut said: Vec<String> = reasons.map(|n| Reason::from(n).to_string()).collect();
     said.extend((1..=5).map(|n| Fault::from(n).to_string()));
     let spoken = said.len();
     said.sort();

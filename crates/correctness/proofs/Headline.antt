@@ -1,4 +1,4 @@
--- The headline statements. Each name leads into the contract of `compile`, `step` or `run`, but for the last four, of the meaning alone.
+-- The headline statements. Each name leads into the contract of `compile`, `step`, `run` or `list`, but for the last four, of the meaning alone.
 -- Assumes nothing.
 use mathlib.Core.Path.{_≡_, sym, _∙_}
 use mathlib.Core.Logic.{_↔_}
@@ -9,7 +9,10 @@ use native.Mathlib.Omega.{arith}
 use lib.ListN.{length, getD, take}
 use borrow.Author.Tests.{le-leb}
 use Rattle.word.specs.Word.{Words, differenceOf}
+use Rattle.decimal.specs.Bytes.{bytes}
+use Rattle.refusal.specs.Refusal.{laidOver}
 use Rattle.instruction.proofs.Forms.{words-taken}
+use Rattle.listing.specs.Listing as T
 use Rattle.machine.specs.declared.Ending.the-variants.{Halted, Faulted}
 use Rattle.machine.specs.declared.State.{State}
 use Rattle.machine.specs.Entry.{ended, stateOf, sizesOf, runEntry}
@@ -32,6 +35,9 @@ use Rattle.correctness.proofs.Meant.{faulted-as-meant, meant}
 use Rattle.correctness.proofs.HaltsAlike as H
 use Rattle.correctness.proofs.Minutes as M
 use Rattle.correctness.proofs.Minutes.{names, rule}
+use Rattle.correctness.proofs.Listed as I
+use Rattle.correctness.proofs.ListedExample as X
+use Rattle.correctness.proofs.ListedExample.{oneName, two}
 
 -- For all tables of words, pools and code buffers that `compile` accepts
 module _ (ds ns : List ℕ) (pool : ℕ) (code : List ℕ) (n c k : ℕ) (wd : Words ds) (wn : Words ns)
@@ -87,6 +93,16 @@ module _ (ds ns : List ℕ) (pool : ℕ) (code : List ℕ) (n c k : ℕ) (wd : W
       → getD (runEntry emitted m (stateOf p R) budget .state .registers) 0 0 ≡ getD R 0 0
   zero-place-kept p R m budget = clear-bit-kept p R m budget 0 (omega arith) (omega (arith, bit-said ds ns pool code n c k said))
 
+  -- The change log. Whatever the text that is lent, the code is listed in it where there is room, and the bytes beyond the listing stay
+  pub emitted-listed : (text : List ℕ) → length (T.listing emitted) ≤ length text
+      → (T.answered emitted (length text) ≡ T.listed (length (T.listing emitted))) × (T.leaves emitted text ≡ laidOver (T.listing emitted) text)
+  emitted-listed = I.emitted-listed ds ns pool code n c k said
+
+  -- and where there is none it is refused with 22 and the bytes needed, and the text stays: so never with 13 or 21
+  pub emitted-needs : (text : List ℕ) → length text < length (T.listing emitted)
+      → (T.answered emitted (length text) ≡ T.refused 22 (length (T.listing emitted))) × (T.leaves emitted text ≡ text)
+  emitted-needs = I.emitted-needs ds ns pool code n c k said
+
 -- The offence of the minutes: x := a - (b - c), however it is compiled, leaves a - (b - c) in x, wrapped, for all a, b, c held in variables
 pub offset-kept : (pool : ℕ) (code : List ℕ) (n c k : ℕ) → compiled names rule pool (length code) ≡ accepted n c k → (R m : List ℕ) → length R ≡ 64
     → 4 ≤ length m → length m ≤ 65536 → (budget : ℕ) → 11 ≤ budget
@@ -96,6 +112,12 @@ pub offset-kept : (pool : ℕ) (code : List ℕ) (n c k : ℕ) → compiled name
 offset-kept pool code n c k said R m r low high budget b =
     let h = M.minutes pool code n c k said R m r low high budget b in
     (h .0, h .2)
+
+-- The example of a listing: x := 2, compiled with the pool $1 and $2 into any buffer of 16 words or more, is these four lines
+pub two-listed : (code : List ℕ) → 16 ≤ length code
+    → (compiled oneName two 6 (length code) ≡ accepted 4 1 2)
+    × (T.listing (take (4 * 4) (leaves oneName two 6 code)) ≡ bytes "addi $1 2 $0\naddi $2 0 $0\nstore $2[$0] $1\nhalt\n")
+two-listed code h = (X.two-accepted (length code) h, X.two-listed code h)
 
 -- Refusal 11, for all tables, pools and buffers: it is given exactly when every check before it passes and no choice of registers by the
 -- scope's rules exists, where a fresh register may be any one left; and it carries the need

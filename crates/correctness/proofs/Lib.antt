@@ -19,6 +19,8 @@ pub mod Registers
 pub mod Acceptance
 pub mod HostRegisters
 pub mod Meant
+pub mod Listed
+pub mod ListedExample
 pub mod Lasting
 pub mod HaltsAlike
 pub mod Minutes

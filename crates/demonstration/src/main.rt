@@ -1,9 +1,9 @@
 // The antenna-change rule, compiled and run on a host that keeps registers of its own.
-mod notation;
 mod reason;
 mod show;
 
 use compiler::CompileAnswer;
+use listing::ListAnswer;
 use machine::Ending;
 use machine::RunAnswer;
 use machine::State;
@@ -14,6 +14,9 @@ ghost use Prim.Native.Nat.{_<_, _≤_};
 const POOL: u64 = 0xff0000000000;
 
 const SMALL_POOL: u64 = 0x3f0000000000;
+
+// Room for the lines of 16 instructions, none of which has more than 33 bytes.
+const LINES: usize = 528;
 
 // The declarations' rows.
 const LOCAL: u32 = 0;
@@ -82,24 +85,15 @@ fn lay_out(declarations: &[u32; 8]) -> rule::Layout {
     rule::lay_out(declarations)
 }
 
-// A number of instructions, at most those that a code buffer of 64 words holds.
-fn within(instructions: u32) -> u32
-    ensures { λ r. ⌜ r ≤ 16 ⌝ }
-{
-    if instructions < 16 { instructions } else { 16 }
-}
-
 // A compilation's answer. The number of instructions is handed back, 0 of a refused rule.
-fn answered(answer: CompileAnswer, pool: u64) -> u32
-    ensures { λ r. ⌜ r ≤ 16 ⌝ }
-{
+fn answered(answer: CompileAnswer, pool: u64) -> u32 {
     match answer {
         CompileAnswer::Accepted(instructions, cells, need) => {
             show::many(b"accepted with ", instructions, b" instruction");
             show::many(b", ", cells, b" cell");
             show::many(b" and ", need, b" register");
             text(b" needed\n");
-            within(instructions)
+            instructions
         }
         CompileAnswer::Refused(no, value) => {
             reason::refusal(no, value, pool);
@@ -109,9 +103,7 @@ fn answered(answer: CompileAnswer, pool: u64) -> u32
 }
 
 // A rule compiled with a pool.
-fn compiled(declarations: &[u32; 8], nodes: &[u32; 40], pool: u64, code: &mut [u32; 64]) -> u32
-    ensures { λ r. ⌜ r ≤ 16 ⌝ }
-{
+fn compiled(declarations: &[u32; 8], nodes: &[u32; 40], pool: u64, code: &mut [u32; 64]) -> u32 {
     text(b"Pool");
     show::pool(pool);
     text(b": ");
@@ -132,17 +124,22 @@ fn code_of(buffer: &[u32; 64], instructions: u32) -> &[u32] {
     front(buffer, instructions)
 }
 
-// So many instructions, one to a line.
-fn show_code(code: &[u32; 64], instructions: u32)
-    requires { ⌜ instructions ≤ 16 ⌝ }
-{
-    let mut at: u32 = 0;
-    while at < instructions {
-        let i = at as usize * 4;
-        show::at_front(at);
-        notation::instruction(code[i], code[i + 1], code[i + 2], code[i + 3]);
-        text(b"\n");
-        at += 1;
+// So many bytes at the front.
+fn written(bytes: &[u8], count: u32) -> &[u8] {
+    let end = count as usize;
+    if bytes.len() < end {
+        return bytes;
+    }
+    &bytes[0..end]
+}
+
+// The listing of a code that fits the buffer.
+fn show_listing(code: &[u32]) {
+    let mut lines = [0u8; LINES];
+    let answer = listing::list(code, &mut lines);
+    match answer {
+        ListAnswer::Listed(count) => text(written(&lines, count)),
+        ListAnswer::Refused(no, value) => reason::refusal(no, value, 0),
     }
 }
 
@@ -264,7 +261,7 @@ fn accepted() {
     text(b"cutover := local - (hours * 3600 + minutes * 60)\n\n");
     show_declarations();
     let n = compiled(&declarations, &nodes, POOL, &mut buffer);
-    show_code(&buffer, n);
+    show_listing(code_of(&buffer, n));
     whole(code_of(&buffer, n));
     slices(code_of(&buffer, n));
 }

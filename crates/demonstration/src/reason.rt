@@ -33,6 +33,8 @@ fn of_room(no: u32) {
         12 => text(b"the code buffer is too small"),
         13 => text(b"the code is too long, or ends within an instruction"),
         14 => text(b"the memory is too large"),
+        21 => text(b"this is no instruction, or its label is outside the code"),
+        22 => text(b"the text is too short"),
         _ => text(b"no refusal has this number"),
     }
 }
@@ -57,6 +59,8 @@ fn returned(no: u32, value: u32, pool: u64) {
         4..=10 => named(b", row ", value),
         11 => registers(value, pool),
         12 => many(b", needed ", value, b" instruction"),
+        21 => named(b", instruction ", value),
+        22 => many(b", needed ", value, b" byte"),
         _ => text(b""),
     }
 }

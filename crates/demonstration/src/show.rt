@@ -10,7 +10,7 @@ pub(crate) fn number(n: u32) {
 }
 
 // A word as the signed number that it stands for.
-pub(crate) fn signed(w: u32) {
+fn signed(w: u32) {
     if w < 2147483648 {
         number(w);
     } else {

@@ -5,8 +5,9 @@ use mathlib.Core.List.{List}
 use Prim.Native.Nat.{ℕ}
 use lib.ListN.{length}
 use Rattle.compiler.specs.Answer.{compiled, leaves}
+use Rattle.listing.specs.Listing.{answered, leaves as textLeft}
 use Rattle.machine.specs.Entry.{stateOf, stepEntry, runEntry}
-use Rattle.sauskinna.specs.Words.{compileReturned, compileAnswered, Left, left, inWords, version}
+use Rattle.sauskinna.specs.Words.{compileReturned, compileAnswered, listReturned, listAnswered, Left, left, inWords, version}
 
 -- l and m are the buffers left
 pub one-sauskinna-compile : (ds ns : List ℕ) (pool : ℕ) (code : List ℕ) (r s : ℕ) (a b l m : List ℕ)
@@ -14,6 +15,13 @@ pub one-sauskinna-compile : (ds ns : List ℕ) (pool : ℕ) (code : List ℕ) (r
     → s ≡ compileReturned (compiled ds ns pool (length code)) → b ≡ compileAnswered (compiled ds ns pool (length code)) → m ≡ leaves ds ns pool code
     → (r ≡ s) × (a ≡ b) × (l ≡ m)
 one-sauskinna-compile ds ns pool code r s a b l m p q u v w x = (p ∙ sym v, q ∙ sym w, u ∙ sym x)
+
+-- l and m are the texts left
+pub one-sauskinna-listing : (code text : List ℕ) (r s : ℕ) (a b l m : List ℕ)
+    → r ≡ listReturned (answered code (length text)) → a ≡ listAnswered (answered code (length text)) → l ≡ textLeft code text
+    → s ≡ listReturned (answered code (length text)) → b ≡ listAnswered (answered code (length text)) → m ≡ textLeft code text
+    → (r ≡ s) × (a ≡ b) × (l ≡ m)
+one-sauskinna-listing code text r s a b l m p q u v w x = (p ∙ sym v, q ∙ sym w, u ∙ sym x)
 
 -- two results of a step or a run: the numbers returned, the answers, places, registers and memories
 module _ (r s : ℕ) (a b : List ℕ) (p q : ℕ) (g h m n : List ℕ) where

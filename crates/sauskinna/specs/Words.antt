@@ -5,6 +5,7 @@ use Rattle.machine.specs.declared.State.{State}
 use Rattle.machine.specs.declared.Ending.{Ending}
 use Rattle.machine.specs.declared.Ending.the-variants.{Halted, Faulted, Unfinished}
 use Rattle.compiler.specs.Answer as compiler
+use Rattle.listing.specs.Listing as listing
 use Rattle.machine.specs.Entry as machine
 
 -- compile returns 0, or the refusal's number
@@ -18,6 +19,16 @@ abbrev pub compileAnswered : compiler.Said → List ℕ
 compileAnswered (compiler.accepted n c k) = n ∷ c ∷ k ∷ []
 -- on a refusal the value returned, then 0, 0
 compileAnswered (compiler.refused n v) = v ∷ 0 ∷ 0 ∷ []
+
+-- listing returns 0, or the refusal's number
+abbrev pub listReturned : listing.Said → ℕ
+listReturned (listing.listed n) = 0
+listReturned (listing.refused n v) = n
+
+-- listing's answer: the bytes written, or on a refusal the value returned; then 0, 0
+abbrev pub listAnswered : listing.Said → List ℕ
+listAnswered (listing.listed n) = n ∷ 0 ∷ 0 ∷ []
+listAnswered (listing.refused n v) = v ∷ 0 ∷ 0 ∷ []
 
 -- step and run return 0, or the refusal's number
 abbrev pub returned : machine.Said → ℕ
@@ -60,4 +71,4 @@ inWords x = left (returned (x .said)) (answered (x .said)) (x .state) (x .memory
 
 -- the version of these functions and of what they answer: its first number × 1,000 + its second
 abbrev pub version : ℕ
-version = 1000
+version = 1001

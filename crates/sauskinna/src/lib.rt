@@ -1,16 +1,19 @@
-// The C library: compile, a single step and a run, over words that a program in C or Rust lends; and its version. include/sauskinna.h declares them.
+// The C library: compile, a single step, a run and a listing, over words and bytes that a program in C or Rust lends; and its version.
+// include/sauskinna.h declares them.
 use compiler::CompileAnswer;
+use listing::ListAnswer;
 use machine::Ending;
 use machine::RunAnswer;
 ghost use mathlib.Core.Path.{_≡_};
 ghost use mathlib.Core.List.{[], _∷_};
 ghost use lib.ListN.{length};
 ghost use Rattle.compiler.specs.Answer.{compiled, leaves};
+ghost use Rattle.listing.specs.Listing.{answered, leaves as textLeft};
 ghost use Rattle.machine.specs.Entry.{stateOf, stepEntry, runEntry};
-ghost use Rattle.sauskinna.specs.Words.{compileReturned, compileAnswered, left, inWords, version};
+ghost use Rattle.sauskinna.specs.Words.{compileReturned, compileAnswered, listReturned, listAnswered, left, inWords, version};
 
 // First number × 1,000 + second: the first is raised where an answer changes, the second where a function is added.
-const VERSION: u32 = 1000;
+const VERSION: u32 = 1001;
 
 // How a step or a run ended: the first word of its answer.
 const WENT_ON: u32 = 0;
@@ -71,6 +74,20 @@ pub extern "C" fn sauskinna_run(
             Ending::Faulted(fault) => tell(answer, FAULTED, fault, steps, 0),
             Ending::Unfinished => tell(answer, UNFINISHED, 0, steps, 0),
         },
+    }
+}
+
+// Writes the listing of the code over the front of the text. Answers the bytes written; at a refusal the value returned.
+#[no_mangle]
+pub extern "C" fn sauskinna_listing(code: &[u32], text: &mut [u8], answer: &mut [u32; 3]) -> u32
+    ensures number { λ r. ⌜ r ≡ listReturned (answered (now (code .entry)) (length (now (text .entry)))) ⌝ }
+    ensures answer { λ _. ⌜ now (answer .exit) ≡ listAnswered (answered (now (code .entry)) (length (now (text .entry)))) ⌝ }
+    ensures text { λ _. ⌜ now (text .exit) ≡ textLeft (now (code .entry)) (now (text .entry)) ⌝ }
+{
+    let said = listing::list(code, text);
+    match said {
+        ListAnswer::Listed(bytes) => tell(answer, bytes, 0, 0, 0),
+        ListAnswer::Refused(number, value) => tell(answer, value, 0, 0, number),
     }
 }
 

@@ -1,0 +1,5 @@
+pub mod Writing
+pub mod Digits
+pub mod Numerals
+mod Filling
+pub mod Outcomes
