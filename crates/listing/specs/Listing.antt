@@ -16,7 +16,7 @@ use Rattle.listing.specs.declared.ListAnswer.{ListAnswer}
 use Rattle.listing.specs.declared.ListAnswer.the-variants.{Listed, Refused}
 use Rattle.listing.specs.Line.{labelPart, instructionLine}
 
--- the label that an instruction names, if it is a jump, "taken or not"
+-- the label that an instruction names, if it is a jump: "any label", whether or not the jump would be taken
 abbrev pub namedBy : Form → ℕ → ℕ → ℕ → Target
 namedBy Unknown a b c = Nowhere
 namedBy Bare a b c = Nowhere
