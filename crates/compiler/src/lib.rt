@@ -1,4 +1,6 @@
 // The compiler: a rule's tables and a pool of registers to code. 01-scope.md; source document 001.
+#![tactic(auto)]
+
 mod construct;
 mod emission;
 mod need;

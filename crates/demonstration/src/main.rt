@@ -1,4 +1,6 @@
 // The antenna-change rule, compiled and run on a host that keeps registers of its own.
+#![tactic(auto)]
+
 mod reason;
 mod show;
 

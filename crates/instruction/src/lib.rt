@@ -1,4 +1,6 @@
 // Instructions: the twelve operations by number, and which four words are an instruction.
+#![tactic(auto)]
+
 ghost use Rattle.std.specs.Prelude.{◌≡◌, ◌&&◌};
 ghost use Rattle.instruction.specs.Instruction.{is_of, register as register_class, unused as unused_class, operation_of, form_of, ins, formed as formed_of, taken as taken_of};
 

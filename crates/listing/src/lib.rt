@@ -1,4 +1,6 @@
 // The listing of a code, in the notation of source document 000, written into a text that is lent.
+#![tactic(auto)]
+
 mod line;
 
 ghost use Rattle.std.specs.Prelude.{◌≡◌, true, ◌++◌, ◌<◌, ◌≤◌, length};

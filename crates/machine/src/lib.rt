@@ -1,4 +1,6 @@
 // The machine of source document 000: one step, and a run under a budget, over lent code and memory.
+#![tactic(auto)]
+
 mod operation;
 
 ghost use Rattle.std.specs.Prelude.{◌≡◌, ◌<◌, ◌≤◌, min, length, slice_index};

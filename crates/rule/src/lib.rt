@@ -1,4 +1,6 @@
 // Station rules as tables: declarations and nodes, and the checks that a table passes before anything is made of it.
+#![tactic(auto)]
+
 mod row;
 
 ghost use Rattle.std.specs.Prelude.{◌≡◌, ◌*◌, ◌<◌, ◌≤◌, length};

@@ -1,5 +1,7 @@
 // The C library: compile, a single step, a run and a listing, over words and bytes that a program in C or Rust lends; and its version.
 // include/sauskinna.h declares them.
+#![tactic(auto)]
+
 ghost use Rattle.std.specs.Prelude.{◌≡◌, [], ◌∷◌, length};
 ghost use Rattle.compiler.specs.Answer.{compiled, leaves};
 ghost use Rattle.listing.specs.Listing.{answered, leaves as text_left};

@@ -1,4 +1,6 @@
 // The settled examples of 01-scope.md, each compiled and run, and what came of it in a line.
+#![tactic(auto)]
+
 mod show;
 mod table;
 

@@ -1,4 +1,6 @@
 // Words: 32-bit numbers read as signed numbers, with wrapping sum, difference and product, and signed order.
+#![tactic(auto)]
+
 ghost use Rattle.std.specs.Prelude.{◌≡◌};
 ghost use Rattle.word.specs.Word.{sum_of, difference_of, product_of, less_of};
 

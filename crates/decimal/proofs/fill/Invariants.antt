@@ -1,0 +1,18 @@
+-- `fill`: at each turn the digits of the rest, written over the text as it stands, give the whole.
+use mathlib.Core.Path.{◌≡◌, refl, ◌∙◌}
+use Prim.Native.Nat.{◌+◌, ◌-◌, ◌≤◌}
+use native.Mathlib.Omega.{arith}
+use lib.ListN.{length, length-set}
+use lib.Seq.{sets}
+use Rattle.decimal.specs.Decimal.{digits}
+use Rattle.decimal.proofs.Digits.{digits_some, length_one, length_more}
+use Rattle.decimal.proofs.Filling.{last_digit, only_digit}
+use Rattle.decimal.proofs.fill.Given as goal
+
+abbrev pub invariant-loop-rest : goal.invariant-loop-rest
+invariant-loop-rest l =
+    (l.i ≤ l.end) × (l.i ≡ l.end - length (digits l.n) + length (digits l.rest)) × (length l.text ≡ length l.initial.text)
+    × (sets l.text (l.end - length (digits l.n)) (digits l.rest) ≡ sets l.initial.text (l.end - length (digits l.n)) (digits l.n))
+
+abbrev pub decreases-loop-rest : goal.decreases-loop-rest
+decreases-loop-rest l = l.rest

@@ -1,0 +1,6 @@
+-- `beq`: the branch on equal readings.
+use Rattle.std.proofs.Common.{rules}
+use Rattle.machine.proofs.operation.beq.Goals as goal
+
+pub returns : goal.returns
+returns c = rw (← c.read-x.ensures, ← c.read-y.ensures) (c.branch-x.ensures p)

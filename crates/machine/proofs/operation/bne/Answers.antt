@@ -1,0 +1,6 @@
+-- `bne`: the branch on unequal readings.
+use Rattle.std.proofs.Common.{rules}
+use Rattle.machine.proofs.operation.bne.Goals as goal
+
+pub returns : goal.returns
+returns c = rw (← c.read-x.ensures, ← c.read-y.ensures) (c.branch-x.ensures p)

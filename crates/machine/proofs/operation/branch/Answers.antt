@@ -1,0 +1,9 @@
+-- `branch`: a jump where it is taken, else the next place.
+use Rattle.std.proofs.Common.{rules}
+use Rattle.machine.proofs.operation.branch.Goals as goal
+
+pub returns-then-taken : goal.returns-then-taken
+returns-then-taken c = rw c.if-taken.true (c.jump.ensures p)
+
+pub returns : goal.returns
+returns c = rw c.if-taken.false

@@ -1,0 +1,15 @@
+-- `proceed`: at each turn what is left to run, limit - place steps, is the whole run from its start.
+use Rattle.std.proofs.Common.{◌≡◌, suc, ◌+◌, ◌-◌, ◌<◌, ◌≤◌, min, length, get_or, refl, ap, ◌∙◌, add-one, arith, rules}
+use Rattle.machine.specs.Inside.{moved}
+use Rattle.machine.specs.Run.{run_of}
+use Rattle.machine.proofs.Cleared.{step_cleared}
+use Rattle.machine.proofs.Places.{step_to}
+use Rattle.machine.proofs.Runs.{run_go, run_halt, run_fault, run_out, step_outside}
+use Rattle.machine.proofs.proceed.Given as goal
+
+abbrev pub invariant-loop-place : goal.invariant-loop-place
+invariant-loop-place l =
+    (l.place ≤ l.limit) × (l.limit ≤ l.place + l.budget) × (l.limit < 8589934592) × (l.stop ≡ min l.count l.limit) × (length l.m ≡ length l.initial.m) × (run_of l.code (l.limit - l.place) l.place l.g l.m ≡ run_of l.code l.budget l.from l.initial.g l.initial.m) × (get_or l.g 0 0 ≡ 0)
+
+abbrev pub decreases-loop-place : goal.decreases-loop-place
+decreases-loop-place l = l.limit - l.place

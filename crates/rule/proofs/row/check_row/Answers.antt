@@ -1,0 +1,11 @@
+-- `check_row`: the smaller of what the words and the last row give.
+use mathlib.Core.Path.{ap₂, ◌∙◌}
+use Prim.Native.Nat.{min}
+use borrow.Author.Rules.{rules}
+use Rattle.rule.specs.Check.{row_no}
+use Rattle.rule.proofs.row.check_row.Goals as goal
+
+pub returns : goal.returns
+unfolding row_no
+returns c =
+    (c.smaller.ensures ∙ ap₂ min c.row_words.ensures.0 c.last_row.ensures, c.row_words.ensures.1)

@@ -1,0 +1,15 @@
+-- `scan_marks`: at each turn the rows below are marked once.
+use mathlib.Core.Bool.{not}
+use mathlib.Core.Path.{◌≡◌, sym, ap, ◌∙◌}
+use Prim.Native.Nat.{◌-◌, ◌≤◌}
+use native.Mathlib.Omega.{arith}
+use borrow.Author.Tests.{eq-eqb, ne_eqb}
+use Rattle.rule.specs.Marks.{not_once, once_marked}
+use Rattle.refusal.proofs.Scans.{scan_from, scan_start, scan_hit, scan_miss, scan_end}
+use Rattle.rule.proofs.scan_marks.Given as goal
+
+abbrev pub invariant-loop-row : goal.invariant-loop-row
+invariant-loop-row l = (l.row ≤ l.rows - 1) × (once_marked l.marks l.rows ≡ scan_from (λ j. 10) (not_once l.marks) (l.rows - 1) l.row)
+
+abbrev pub decreases-loop-row : goal.decreases-loop-row
+decreases-loop-row l = l.rows - 1 - l.row
