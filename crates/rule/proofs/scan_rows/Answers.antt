@@ -26,7 +26,7 @@ returns-then-number-lt10 c =
     let handed = c.args in
     let ds = handed.declarations.now in
     let ns = handed.nodes.now in
-    ap (λ (v : Verdict). v and_then used_once ns) (sym (turn.invariant.2 ∙ numbered_hit (row_no ds ns) (node_rows ns) turn.row c.check_row-number.result c.loop-row-test.true c.check_row-number.ensures.0 c.if-number-lt10.true))
+    ap (λ (v : Verdict). v and_then used_once ns) (sym (turn.invariant.2 ∙ numbered_hit (row_no ds ns) (node_rows ns) turn.row c.check_row-number.result c.loop-row-test.true c.check_row-number.ensures.refusal c.if-number-lt10.true))
 
 pub loop-row-preserved : goal.loop-row-preserved
 loop-row-preserved c =
@@ -35,7 +35,7 @@ loop-row-preserved c =
     let ds = handed.declarations.now in
     let ns = handed.nodes.now in
     let i = turn.row in
-    (omega arith, c.check_row-number.ensures.1 ∙ ap (mark_words ns i (words_of (kind_at ns i))) turn.invariant.1 ∙ sym (marked_next ns i), turn.invariant.2 ∙ numbered_miss (row_no ds ns) (node_rows ns) i c.check_row-number.result c.loop-row-test.true c.check_row-number.ensures.0 c.if-number-lt10.false)
+    (omega arith, c.check_row-number.ensures.marks ∙ ap (mark_words ns i (words_of (kind_at ns i))) turn.invariant.1 ∙ sym (marked_next ns i), turn.invariant.2 ∙ numbered_miss (row_no ds ns) (node_rows ns) i c.check_row-number.result c.loop-row-test.true c.check_row-number.ensures.refusal c.if-number-lt10.false)
 
 pub returns : goal.returns
 returns c =

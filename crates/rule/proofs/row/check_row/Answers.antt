@@ -8,4 +8,4 @@ use Rattle.rule.proofs.row.check_row.Goals as goal
 pub returns : goal.returns
 unfolding row_no
 returns c =
-    (c.smaller.ensures ∙ ap₂ min c.row_words.ensures.0 c.last_row.ensures, c.row_words.ensures.1)
+    record { refusal = c.smaller.ensures ∙ ap₂ min c.row_words.ensures.refusal c.last_row.ensures; marks = c.row_words.ensures.marks }

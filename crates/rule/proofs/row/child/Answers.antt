@@ -10,16 +10,16 @@ pub returns-then-row-at : goal.returns-then-row-at
 returns-then-row-at c =
     let handed = c.args in
     let e = le-ltb handed.w handed.row (omega arith) in
-    (simp e, simp e)
+    record { refusal = simp e; marks = simp e }
 
 pub returns-then-among : goal.returns-then-among
 returns-then-among c =
     let handed = c.args in
     let e = lt-ltb handed.w handed.row (omega arith) in
-    (simp (e, ← kind_word, sym c.among.ensures ∙ c.if-among.true), simp (e, c.more.ensures))
+    record { refusal = simp (e, ← kind_word, sym c.among.ensures ∙ c.if-among.true); marks = simp (e, c.more.ensures) }
 
 pub returns-else-among : goal.returns-else-among
 returns-else-among c =
     let handed = c.args in
     let e = lt-ltb handed.w handed.row (omega arith) in
-    (simp (e, ← kind_word, sym c.among.ensures ∙ c.if-among.false), simp (e, c.more.ensures))
+    record { refusal = simp (e, ← kind_word, sym c.among.ensures ∙ c.if-among.false); marks = simp (e, c.more.ensures) }

@@ -21,35 +21,35 @@ returns-in-17 c =
     let handed = c.args in
     let ns = handed.nodes.now in
     let i = handed.row in
-    by_words handed.declarations.now ns i handed.marks.now (three variableName expression unused) (words_at ns i 17 c.in-17.is) (least_of c.smallest-in-17.ensures c.name.ensures c.expression.ensures.0 c.unused-in-17.ensures) c.expression.ensures.1
+    by_words handed.declarations.now ns i handed.marks.now (three variableName expression unused) (words_at ns i 17 c.in-17.is) (least_of c.smallest-in-17.ensures c.name.ensures c.expression.ensures.refusal c.unused-in-17.ensures) c.expression.ensures.marks
 
 pub returns-in-18 : goal.returns-in-18
 returns-in-18 c =
     let handed = c.args in
     let ns = handed.nodes.now in
     let i = handed.row in
-    by_words handed.declarations.now ns i handed.marks.now (three arrayName expression expression) (words_at ns i 18 c.in-18.is) (least_of c.smallest-in-18.ensures c.name-in-18.ensures c.expression-in-18.ensures.0 c.expression-in-18-2.ensures.0) (c.expression-in-18-2.ensures.1 ∙ ap (mark_child i (word ns i 3)) c.expression-in-18.ensures.1)
+    by_words handed.declarations.now ns i handed.marks.now (three arrayName expression expression) (words_at ns i 18 c.in-18.is) (least_of c.smallest-in-18.ensures c.name-in-18.ensures c.expression-in-18.ensures.refusal c.expression-in-18-2.ensures.refusal) (c.expression-in-18-2.ensures.marks ∙ ap (mark_child i (word ns i 3)) c.expression-in-18.ensures.marks)
 
 pub returns-in-19 : goal.returns-in-19
 returns-in-19 c =
     let handed = c.args in
     let ns = handed.nodes.now in
     let i = handed.row in
-    by_words handed.declarations.now ns i handed.marks.now (three command command unused) (words_at ns i 19 c.in-19.is) (least_of c.smallest-in-19.ensures c.command.ensures.0 c.command-in-19.ensures.0 c.unused-in-19.ensures) (c.command-in-19.ensures.1 ∙ ap (mark_child i (word ns i 2)) c.command.ensures.1)
+    by_words handed.declarations.now ns i handed.marks.now (three command command unused) (words_at ns i 19 c.in-19.is) (least_of c.smallest-in-19.ensures c.command.ensures.refusal c.command-in-19.ensures.refusal c.unused-in-19.ensures) (c.command-in-19.ensures.marks ∙ ap (mark_child i (word ns i 2)) c.command.ensures.marks)
 
 pub returns-in-20 : goal.returns-in-20
 returns-in-20 c =
     let handed = c.args in
     let ns = handed.nodes.now in
     let i = handed.row in
-    by_words handed.declarations.now ns i handed.marks.now (three expression command command) (words_at ns i 20 c.in-20.is) (least_of c.smallest-in-20.ensures c.expression-in-20.ensures.0 c.command-in-20.ensures.0 c.command-in-20-2.ensures.0) (c.command-in-20-2.ensures.1 ∙ ap (mark_child i (word ns i 3)) (c.command-in-20.ensures.1 ∙ ap (mark_child i (word ns i 2)) c.expression-in-20.ensures.1))
+    by_words handed.declarations.now ns i handed.marks.now (three expression command command) (words_at ns i 20 c.in-20.is) (least_of c.smallest-in-20.ensures c.expression-in-20.ensures.refusal c.command-in-20.ensures.refusal c.command-in-20-2.ensures.refusal) (c.command-in-20-2.ensures.marks ∙ ap (mark_child i (word ns i 3)) (c.command-in-20.ensures.marks ∙ ap (mark_child i (word ns i 2)) c.expression-in-20.ensures.marks))
 
 pub returns-in-21 : goal.returns-in-21
 returns-in-21 c =
     let handed = c.args in
     let ns = handed.nodes.now in
     let i = handed.row in
-    by_words handed.declarations.now ns i handed.marks.now (three expression command unused) (words_at ns i 21 c.in-21.is) (least_of c.smallest-in-21.ensures c.expression-in-21.ensures.0 c.command-in-21.ensures.0 c.unused-in-21.ensures) (c.command-in-21.ensures.1 ∙ ap (mark_child i (word ns i 2)) c.expression-in-21.ensures.1)
+    by_words handed.declarations.now ns i handed.marks.now (three expression command unused) (words_at ns i 21 c.in-21.is) (least_of c.smallest-in-21.ensures c.expression-in-21.ensures.refusal c.command-in-21.ensures.refusal c.unused-in-21.ensures) (c.command-in-21.ensures.marks ∙ ap (mark_child i (word ns i 2)) c.expression-in-21.ensures.marks)
 
 pub returns-in_default : goal.returns-in_default
 returns-in_default c =

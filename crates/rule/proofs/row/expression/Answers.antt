@@ -10,4 +10,4 @@ use Rattle.rule.proofs.row.expression.Goals as goal
 pub returns : goal.returns
 returns c =
     let handed = c.args in
-    (c.child.ensures.0 ∙ ap (λ (t : Bool). child_no handed.row t handed.w) (sym (expression_kind (word handed.nodes.now handed.w 0))), c.child.ensures.1)
+    record { refusal = c.child.ensures.refusal ∙ ap (λ (t : Bool). child_no handed.row t handed.w) (sym (expression_kind (word handed.nodes.now handed.w 0))); marks = c.child.ensures.marks }

@@ -28,14 +28,14 @@ returns-in-3 c =
     let handed = c.args in
     let ns = handed.nodes.now in
     let i = handed.row in
-    by_words handed.declarations.now ns i handed.marks.now (three arrayName expression unused) (words_at ns i 3 c.in-3.is) (least_of c.smallest-in-3.ensures c.name-in-3.ensures c.expression.ensures.0 c.unused-in-3.ensures) c.expression.ensures.1
+    by_words handed.declarations.now ns i handed.marks.now (three arrayName expression unused) (words_at ns i 3 c.in-3.is) (least_of c.smallest-in-3.ensures c.name-in-3.ensures c.expression.ensures.refusal c.unused-in-3.ensures) c.expression.ensures.marks
 
 pub returns-in-11 : goal.returns-in-11
 returns-in-11 c =
     let handed = c.args in
     let ns = handed.nodes.now in
     let i = handed.row in
-    by_words handed.declarations.now ns i handed.marks.now (three expression unused unused) (words_at ns i 11 c.in-11.is) (least_of c.smallest-in-11.ensures c.expression-in-11.ensures.0 c.unused-in-11.ensures c.unused-in-11-2.ensures) c.expression-in-11.ensures.1
+    by_words handed.declarations.now ns i handed.marks.now (three expression unused unused) (words_at ns i 11 c.in-11.is) (least_of c.smallest-in-11.ensures c.expression-in-11.ensures.refusal c.unused-in-11.ensures c.unused-in-11-2.ensures) c.expression-in-11.ensures.marks
 
 pub returns-in-4-to-10 : goal.returns-in-4-to-10
 returns-in-4-to-10 c =
@@ -43,7 +43,7 @@ returns-in-4-to-10 c =
     let ns = handed.nodes.now in
     let i = handed.row in
     let k = get_or ns (i * 4) 0 in
-    by_words handed.declarations.now ns i handed.marks.now (three expression expression unused) (words_at ns i k refl ∙ binary_kind k c.if-this-lt1.false c.if-this-lt11.true c.in_default.in_default-own.rest.0.0.0.1 c.in_default.in_default-own.rest.0.0.1 c.in_default.in_default-own.rest.0.1) (least_of c.smallest-in-4-to-10.ensures c.expression-in-4-to-10.ensures.0 c.expression-in-4-to-10-2.ensures.0 c.unused-in-4-to-10.ensures) (c.expression-in-4-to-10-2.ensures.1 ∙ ap (mark_child i (word ns i 2)) c.expression-in-4-to-10.ensures.1)
+    by_words handed.declarations.now ns i handed.marks.now (three expression expression unused) (words_at ns i k refl ∙ binary_kind k c.if-this-lt1.false c.if-this-lt11.true c.in_default.in_default-own.rest.0.0.0.1 c.in_default.in_default-own.rest.0.0.1 c.in_default.in_default-own.rest.0.1) (least_of c.smallest-in-4-to-10.ensures c.expression-in-4-to-10.ensures.refusal c.expression-in-4-to-10-2.ensures.refusal c.unused-in-4-to-10.ensures) (c.expression-in-4-to-10-2.ensures.marks ∙ ap (mark_child i (word ns i 2)) c.expression-in-4-to-10.ensures.marks)
 
 pub returns-in_default : goal.returns-in_default
 returns-in_default c =
