@@ -3,4 +3,4 @@ use Rattle.std.proofs.Common.{rules}
 use Rattle.machine.proofs.operation.beq.Goals as goal
 
 pub returns : goal.returns
-returns c = rw (← c.read-x.ensures, ← c.read-y.ensures) (c.branch-x.ensures p)
+returns c p = rw (← c.read-x.ensures, ← c.read-y.ensures) (c.branch-x.ensures p)

@@ -3,7 +3,7 @@ use Rattle.std.proofs.Common.{rules}
 use Rattle.machine.proofs.operation.branch.Goals as goal
 
 pub returns-then-taken : goal.returns-then-taken
-returns-then-taken c = rw c.if-taken.true (c.jump.ensures p)
+returns-then-taken c p = rw c.if-taken.true (c.jump.ensures p)
 
 pub returns : goal.returns
-returns c = rw c.if-taken.false
+returns c p = rw c.if-taken.false

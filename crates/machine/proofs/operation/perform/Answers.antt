@@ -44,52 +44,52 @@ slt-requires c = let h = registers_below c.args.a c.args.b c.args.c (rw c.in-11.
 
 pub returns-in-0 : goal.returns-in-0
 unfolding perform
-returns-in-0 c = rw c.in-0.is
+returns-in-0 c p = rw c.in-0.is
 
 pub returns-in-1 : goal.returns-in-1
 unfolding perform
-returns-in-1 c = rw c.in-1.is
+returns-in-1 c p = rw c.in-1.is
 
 pub returns-in-2 : goal.returns-in-2
 unfolding perform
-returns-in-2 c = rw (c.in-2.is, c.add.ensures.0 p, c.add.ensures.1)
+returns-in-2 c p = rw (c.in-2.is, c.add.ensures.0 p, c.add.ensures.1)
 
 pub returns-in-3 : goal.returns-in-3
 unfolding perform
-returns-in-3 c = rw (c.in-3.is, c.addi.ensures.0 p, c.addi.ensures.1)
+returns-in-3 c p = rw (c.in-3.is, c.addi.ensures.0 p, c.addi.ensures.1)
 
 pub returns-in-4 : goal.returns-in-4
 unfolding perform
-returns-in-4 c = rw (c.in-4.is, c.sub.ensures.0 p, c.sub.ensures.1)
+returns-in-4 c p = rw (c.in-4.is, c.sub.ensures.0 p, c.sub.ensures.1)
 
 pub returns-in-5 : goal.returns-in-5
 unfolding perform
-returns-in-5 c = rw (c.in-5.is, c.mul.ensures.0 p, c.mul.ensures.1)
+returns-in-5 c p = rw (c.in-5.is, c.mul.ensures.0 p, c.mul.ensures.1)
 
 pub returns-in-6 : goal.returns-in-6
 unfolding perform
-returns-in-6 c = rw c.in-6.is (c.load.ensures p)
+returns-in-6 c p = rw c.in-6.is (c.load.ensures p)
 
 pub returns-in-7 : goal.returns-in-7
 unfolding perform
-returns-in-7 c = rw c.in-7.is (c.store.ensures p)
+returns-in-7 c p = rw c.in-7.is (c.store.ensures p)
 
 pub returns-in-8 : goal.returns-in-8
 unfolding perform
-returns-in-8 c = rw (c.in-8.is, c.jump.ensures p)
+returns-in-8 c p = rw (c.in-8.is, c.jump.ensures p)
 
 pub returns-in-9 : goal.returns-in-9
 unfolding perform
-returns-in-9 c = rw (c.in-9.is, c.bne.ensures p)
+returns-in-9 c p = rw (c.in-9.is, c.bne.ensures p)
 
 pub returns-in-10 : goal.returns-in-10
 unfolding perform
-returns-in-10 c = rw (c.in-10.is, c.beq.ensures p)
+returns-in-10 c p = rw (c.in-10.is, c.beq.ensures p)
 
 pub returns-in-11 : goal.returns-in-11
 unfolding perform
-returns-in-11 c = rw (c.in-11.is, c.slt.ensures.0 p, c.slt.ensures.1)
+returns-in-11 c p = rw (c.in-11.is, c.slt.ensures.0 p, c.slt.ensures.1)
 
 pub returns-in_default : goal.returns-in_default
 unfolding perform
-returns-in_default c = rw (get_or-eq_default _ _ (others _ 12 _ c.in_default.in_default-own.rest))
+returns-in_default c p = rw (get_or-eq_default _ _ (others _ 12 _ c.in_default.in_default-own.rest))
