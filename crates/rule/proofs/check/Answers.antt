@@ -1,6 +1,5 @@
 -- `check`: the checks in their order, and the cells of a layout that passes.
 use mathlib.Core.Path.{refl, sym, ap, ◌∙◌}
-use borrow.Author.Rules.{rules}
 use Rattle.rule.specs.Answer.{accepted}
 use Rattle.rule.proofs.Answers.{words-verdict, rows-verdict, checked-from, layout-verdict, layout-cells}
 use Rattle.rule.proofs.check.Goals as goal

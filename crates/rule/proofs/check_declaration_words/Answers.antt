@@ -2,7 +2,6 @@
 use Prim.Native.Nat.{◌*◌}
 use native.Mathlib.Omega.{arith}
 use borrow.Author.Tests.{eq-eqb, ne_eqb, lt-leb, le-leb}
-use borrow.Author.Rules.{rules}
 use Rattle.rule.specs.Table.{declaration_limit}
 use Rattle.rule.specs.Check.{declaration_words}
 use Rattle.rule.proofs.check_declaration_words.Goals as goal

@@ -2,7 +2,6 @@
 use Prim.Native.Nat.{◌*◌}
 use native.Mathlib.Omega.{arith}
 use borrow.Author.Tests.{eq-eqb, ne_eqb, lt-leb, le-leb, lt-ltb, le-ltb}
-use borrow.Author.Rules.{rules}
 use Rattle.rule.specs.Table.{row_limit}
 use Rattle.rule.specs.Check.{node_words}
 use Rattle.rule.proofs.check_node_words.Goals as goal

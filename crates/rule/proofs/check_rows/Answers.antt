@@ -2,7 +2,6 @@
 use mathlib.Core.Path.{sym, ap, ◌∙◌}
 use native.Mathlib.Omega.{arith}
 use lib.ListN.{length}
-use borrow.Author.Rules.{rules}
 use Rattle.rule.specs.Check.{nodes}
 use Rattle.rule.specs.Answer.{verdict_said, rows_checked}
 use Rattle.rule.proofs.Verdicts.{node_words_pass}

@@ -1,6 +1,5 @@
 -- `check_words`: refusal 1, then 2.
 use mathlib.Core.Path.{ap}
-use borrow.Author.Rules.{rules}
 use Rattle.rule.specs.Answer.{verdict_said, words_checked}
 use Rattle.rule.proofs.check_words.Goals as goal
 

@@ -1,6 +1,5 @@
 -- `is_declaration`: the kinds are those of the definition.
 use borrow.Author.Tests.{ne_eqb}
-use borrow.Author.Rules.{rules}
 use Rattle.rule.proofs.is_declaration.Goals as goal
 
 pub returns-in-1 : goal.returns-in-1

@@ -1,7 +1,6 @@
 -- `lay_out`: refusal 2, and where it is not given the rows are few enough for the rest.
 use mathlib.Core.Path.{sym, ◌∙◌}
 use lib.ListN.{length}
-use borrow.Author.Rules.{rules}
 use Rattle.rule.specs.Check.{declared}
 use Rattle.rule.specs.Layout.{layout_of}
 use Rattle.rule.proofs.Verdicts.{declaration_words_pass}

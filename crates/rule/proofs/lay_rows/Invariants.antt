@@ -1,17 +1,10 @@
 -- `lay_rows`: at each turn the rows below are in order, their first cells are in place, and the cells so far are their sum.
-use mathlib.Core.List.{List}
-use mathlib.Core.Path.{◌≡◌, refl, sym, ap, ap₂, ◌∙◌}
-use Prim.Native.Nat.{ℕ, ◌+◌, ◌-◌, ◌/◌, ◌≤◌}
-use native.Mathlib.Omega.{arith}
-use lib.ListN.{length, set}
-use borrow.Author.Tests.{not-true, not-false}
-use Rattle.rule.specs.Table.{declaration_rows, sort, given, first_cell}
-use Rattle.rule.specs.Check.{declaration_no, refused, declarations as declarations_of, bases as first_cells}
-use Rattle.rule.specs.Answer.{passed, verdict_said}
-use Rattle.rule.specs.Layout.{laid_as, laid_said, laid_out}
-use Rattle.refusal.proofs.Scans.{scan_start, scan_end}
+use mathlib.Core.Path.{◌≡◌}
+use Prim.Native.Nat.{◌-◌, ◌/◌, ◌≤◌}
+use lib.ListN.{length}
+use Rattle.rule.specs.Table.{declaration_rows, first_cell}
+use Rattle.rule.specs.Check.{declaration_no, declarations as declarations_of, bases as first_cells}
 use Rattle.rule.proofs.Scans.{numbered_from}
-use Rattle.rule.proofs.Cells.{declaration_cells, first_cell_next, bases_next, no_declaration, too_many_cells, declaration_in_order}
 use Rattle.rule.proofs.lay_rows.Given as goal
 
 abbrev pub invariant-loop-row : goal.invariant-loop-row

@@ -1,11 +1,8 @@
 -- `scan_marks`: at each turn the rows below are marked once.
-use mathlib.Core.Bool.{not}
-use mathlib.Core.Path.{◌≡◌, sym, ap, ◌∙◌}
+use mathlib.Core.Path.{◌≡◌}
 use Prim.Native.Nat.{◌-◌, ◌≤◌}
-use native.Mathlib.Omega.{arith}
-use borrow.Author.Tests.{eq-eqb, ne_eqb}
 use Rattle.rule.specs.Marks.{not_once, once_marked}
-use Rattle.refusal.proofs.Scans.{scan_from, scan_start, scan_hit, scan_miss, scan_end}
+use Rattle.refusal.proofs.Scans.{scan_from}
 use Rattle.rule.proofs.scan_marks.Given as goal
 
 abbrev pub invariant-loop-row : goal.invariant-loop-row

@@ -1,7 +1,7 @@
 -- `scan_rows`: at each turn the rows below are in order and their children marked; at the end the marks tell refusal 10.
 use mathlib.Core.List.{List}
 use mathlib.Core.Path.{◌≡◌, refl, sym, ap, ◌∙◌}
-use Prim.Native.Nat.{ℕ, ◌-◌, ◌≤◌}
+use Prim.Native.Nat.{ℕ}
 use native.Mathlib.Omega.{arith}
 use Rattle.refusal.specs.declared.Verdict.{Verdict}
 use Rattle.rule.specs.Kind.{words_of}
@@ -11,7 +11,7 @@ use Rattle.rule.specs.Check.{row_no, refused, rows as rows_of, used_once}
 use Rattle.rule.specs.Marks.{mark_words, marked, once_marked}
 use Rattle.rule.proofs.Marking.{marked_next, marks_then}
 use Rattle.refusal.proofs.Scans.{scan_start, scan_end}
-use Rattle.rule.proofs.Scans.{numbered_from, numbered_hit, numbered_miss}
+use Rattle.rule.proofs.Scans.{numbered_hit, numbered_miss}
 use Rattle.rule.proofs.scan_rows.Goals as goal
 
 pub loop-row-init : goal.loop-row-init

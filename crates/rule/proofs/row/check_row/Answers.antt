@@ -1,7 +1,6 @@
 -- `check_row`: the smaller of what the words and the last row give.
 use mathlib.Core.Path.{ap₂, ◌∙◌}
 use Prim.Native.Nat.{min}
-use borrow.Author.Rules.{rules}
 use Rattle.rule.specs.Check.{row_no}
 use Rattle.rule.proofs.row.check_row.Goals as goal
 

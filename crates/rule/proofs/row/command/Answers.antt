@@ -1,7 +1,6 @@
 -- `command`: the kinds from 16 to 21 are the commands.
 use mathlib.Core.Path.{sym, ap, ◌∙◌}
 use mathlib.Core.Bool.{Bool}
-use borrow.Author.Rules.{rules}
 use Rattle.rule.specs.Table.{word}
 use Rattle.rule.specs.Check.{child_no}
 use Rattle.rule.proofs.Sorts.{command_kind}

@@ -1,7 +1,6 @@
 -- `expression`: the kinds from 1 to 11 are the expressions.
 use mathlib.Core.Path.{sym, ap, ◌∙◌}
 use mathlib.Core.Bool.{Bool}
-use borrow.Author.Rules.{rules}
 use Rattle.rule.specs.Table.{word}
 use Rattle.rule.specs.Check.{child_no}
 use Rattle.rule.proofs.Sorts.{expression_kind}

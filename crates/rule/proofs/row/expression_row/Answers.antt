@@ -2,7 +2,7 @@
 use mathlib.Core.Path.{refl, ap, ◌∙◌}
 use Prim.Native.Nat.{◌*◌}
 use lib.ListN.{get_or}
-use borrow.Author.Rules.{rules}
+use native.Mathlib.Omega.{arith}
 use Rattle.rule.specs.Kind.{three, none, unused, number, scalar, arrayName, expression}
 use Rattle.rule.specs.Table.{word}
 use Rattle.rule.specs.Marks.{mark_child}
@@ -14,28 +14,28 @@ returns-in-1 c =
     let handed = c.args in
     let ns = handed.nodes.now in
     let i = handed.row in
-    by_words handed.declarations.now ns i handed.marks.now (three number unused unused) (words_at ns i 1 c.in-1.is) (least_of c.smallest.ensures refl c.unused.ensures c.unused-in-1.ensures) refl
+    let w = by_words handed.declarations.now ns i handed.marks.now (three number unused unused) (words_at ns i 1 c.in-1.is) (least_of c.smallest.ensures refl c.unused.ensures c.unused-in-1.ensures) refl in record { refusal = w.0; marks = w.1 }
 
 pub returns-in-2 : goal.returns-in-2
 returns-in-2 c =
     let handed = c.args in
     let ns = handed.nodes.now in
     let i = handed.row in
-    by_words handed.declarations.now ns i handed.marks.now (three scalar unused unused) (words_at ns i 2 c.in-2.is) (least_of c.smallest-in-2.ensures c.name.ensures c.unused-in-2.ensures c.unused-in-2-2.ensures) refl
+    let w = by_words handed.declarations.now ns i handed.marks.now (three scalar unused unused) (words_at ns i 2 c.in-2.is) (least_of c.smallest-in-2.ensures c.name.ensures c.unused-in-2.ensures c.unused-in-2-2.ensures) refl in record { refusal = w.0; marks = w.1 }
 
 pub returns-in-3 : goal.returns-in-3
 returns-in-3 c =
     let handed = c.args in
     let ns = handed.nodes.now in
     let i = handed.row in
-    by_words handed.declarations.now ns i handed.marks.now (three arrayName expression unused) (words_at ns i 3 c.in-3.is) (least_of c.smallest-in-3.ensures c.name-in-3.ensures c.expression.ensures.refusal c.unused-in-3.ensures) c.expression.ensures.marks
+    let w = by_words handed.declarations.now ns i handed.marks.now (three arrayName expression unused) (words_at ns i 3 c.in-3.is) (least_of c.smallest-in-3.ensures c.name-in-3.ensures c.expression.ensures.refusal c.unused-in-3.ensures) c.expression.ensures.marks in record { refusal = w.0; marks = w.1 }
 
 pub returns-in-11 : goal.returns-in-11
 returns-in-11 c =
     let handed = c.args in
     let ns = handed.nodes.now in
     let i = handed.row in
-    by_words handed.declarations.now ns i handed.marks.now (three expression unused unused) (words_at ns i 11 c.in-11.is) (least_of c.smallest-in-11.ensures c.expression-in-11.ensures.refusal c.unused-in-11.ensures c.unused-in-11-2.ensures) c.expression-in-11.ensures.marks
+    let w = by_words handed.declarations.now ns i handed.marks.now (three expression unused unused) (words_at ns i 11 c.in-11.is) (least_of c.smallest-in-11.ensures c.expression-in-11.ensures.refusal c.unused-in-11.ensures c.unused-in-11-2.ensures) c.expression-in-11.ensures.marks in record { refusal = w.0; marks = w.1 }
 
 pub returns-in-4-to-10 : goal.returns-in-4-to-10
 returns-in-4-to-10 c =
@@ -43,7 +43,7 @@ returns-in-4-to-10 c =
     let ns = handed.nodes.now in
     let i = handed.row in
     let k = get_or ns (i * 4) 0 in
-    by_words handed.declarations.now ns i handed.marks.now (three expression expression unused) (words_at ns i k refl ∙ binary_kind k c.if-this-lt1.false c.if-this-lt11.true c.in_default.in_default-own.rest.0.0.0.1 c.in_default.in_default-own.rest.0.0.1 c.in_default.in_default-own.rest.0.1) (least_of c.smallest-in-4-to-10.ensures c.expression-in-4-to-10.ensures.refusal c.expression-in-4-to-10-2.ensures.refusal c.unused-in-4-to-10.ensures) (c.expression-in-4-to-10-2.ensures.marks ∙ ap (mark_child i (word ns i 2)) c.expression-in-4-to-10.ensures.marks)
+    let w = by_words handed.declarations.now ns i handed.marks.now (three expression expression unused) (words_at ns i k refl ∙ binary_kind k (omega arith) (omega arith) (omega arith) (omega arith) (omega arith)) (least_of c.smallest-in-4-to-10.ensures c.expression-in-4-to-10.ensures.refusal c.expression-in-4-to-10-2.ensures.refusal c.unused-in-4-to-10.ensures) (c.expression-in-4-to-10-2.ensures.marks ∙ ap (mark_child i (word ns i 2)) c.expression-in-4-to-10.ensures.marks) in record { refusal = w.0; marks = w.1 }
 
 pub returns-in_default : goal.returns-in_default
 returns-in_default c =
@@ -51,7 +51,7 @@ returns-in_default c =
     let ns = handed.nodes.now in
     let i = handed.row in
     let k = get_or ns (i * 4) 0 in
-    by_words handed.declarations.now ns i handed.marks.now (three none none none) (words_at ns i k refl ∙ no_kind_low k c.if-this-lt1.true) refl refl
+    let w = by_words handed.declarations.now ns i handed.marks.now (three none none none) (words_at ns i k refl ∙ no_kind_low k (omega arith)) refl refl in record { refusal = w.0; marks = w.1 }
 
 pub returns-in_default-2 : goal.returns-in_default-2
 returns-in_default-2 c =
@@ -59,4 +59,4 @@ returns-in_default-2 c =
     let ns = handed.nodes.now in
     let i = handed.row in
     let k = get_or ns (i * 4) 0 in
-    by_words handed.declarations.now ns i handed.marks.now (three none none none) (words_at ns i k refl ∙ no_kind_between k c.if-this-lt11.false c.in_default.in_default-own.rest.1 (rw (kind_word ns i) c.requires.2)) refl refl
+    let w = by_words handed.declarations.now ns i handed.marks.now (three none none none) (words_at ns i k refl ∙ no_kind_between k (omega arith) (omega arith) (rw (kind_word ns i) c.requires.2)) refl refl in record { refusal = w.0; marks = w.1 }

@@ -4,9 +4,7 @@ use mathlib.Core.Bool.{true, false}
 use Prim.Native.Nat.{suc}
 use native.Mathlib.Omega.{arith}
 use borrow.Author.Tests.{ne_eqb}
-use borrow.Author.Rules.{rules}
 use Rattle.rule.specs.Table.{node_rows}
-use Rattle.rule.specs.Check.{among}
 use Rattle.rule.proofs.Sorts.{last_is}
 use Rattle.rule.proofs.row.last_row.Goals as goal
 

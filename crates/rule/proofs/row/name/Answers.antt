@@ -1,7 +1,6 @@
 -- `name`: the tests are those of refusals 8 and 9.
 use mathlib.Core.Path.{sym, ◌∙◌}
 use borrow.Author.Tests.{lt-ltb, le-ltb}
-use borrow.Author.Rules.{rules}
 use Rattle.rule.proofs.row.name.Goals as goal
 
 pub returns-then-declarations-row : goal.returns-then-declarations-row

@@ -1,6 +1,5 @@
 -- `row_words`: the kinds below 16, and the others.
 use native.Mathlib.Omega.{arith}
-use borrow.Author.Rules.{rules}
 use Rattle.rule.proofs.Sorts.{kind_word}
 use Rattle.rule.proofs.row.row_words.Goals as goal
 
