@@ -1,10 +1,8 @@
 -- `digit_count`: at each turn the digits counted and those of what is left are one more than there are, since the last of them is in both.
 use mathlib.Core.Path.{◌≡◌}
 use Prim.Native.Nat.{◌+◌, ◌≤◌}
-use native.Mathlib.Omega.{arith}
 use lib.ListN.{length}
 use Rattle.decimal.specs.Decimal.{digits}
-use Rattle.decimal.proofs.Digits.{length_one, length_more, digits_some, digits_short}
 use Rattle.decimal.proofs.digit_count.Given as goal
 
 abbrev pub invariant-loop-left : goal.invariant-loop-left

@@ -1,9 +1,8 @@
 -- `fill`: at each turn the digits of the rest, written over the text as it stands, give the whole.
-use mathlib.Core.Path.{◌≡◌, refl, ◌∙◌}
-use Prim.Native.Nat.{◌+◌, ◌-◌, ◌≤◌}
+use mathlib.Core.Path.{refl, ◌∙◌}
+use Prim.Native.Nat.{◌-◌}
 use native.Mathlib.Omega.{arith}
 use lib.ListN.{length, length-set}
-use lib.Seq.{sets}
 use Rattle.decimal.specs.Decimal.{digits}
 use Rattle.decimal.proofs.Digits.{digits_some, length_one, length_more}
 use Rattle.decimal.proofs.Filling.{last_digit, only_digit}

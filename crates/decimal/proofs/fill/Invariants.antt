@@ -1,12 +1,9 @@
 -- `fill`: at each turn the digits of the rest, written over the text as it stands, give the whole.
-use mathlib.Core.Path.{◌≡◌, refl, ◌∙◌}
+use mathlib.Core.Path.{◌≡◌}
 use Prim.Native.Nat.{◌+◌, ◌-◌, ◌≤◌}
-use native.Mathlib.Omega.{arith}
-use lib.ListN.{length, length-set}
+use lib.ListN.{length}
 use lib.Seq.{sets}
 use Rattle.decimal.specs.Decimal.{digits}
-use Rattle.decimal.proofs.Digits.{digits_some, length_one, length_more}
-use Rattle.decimal.proofs.Filling.{last_digit, only_digit}
 use Rattle.decimal.proofs.fill.Given as goal
 
 abbrev pub invariant-loop-rest : goal.invariant-loop-rest
