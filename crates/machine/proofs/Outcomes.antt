@@ -3,9 +3,7 @@
 use Rattle.std.proofs.Common.{◌≡◌, ℕ, Bool, true, false, eqb, List, sym, refl, ap, ◌∙◌}
 use Rattle.machine.specs.declared.State.{State}
 use Rattle.machine.specs.declared.RunAnswer.{RunAnswer}
-use Rattle.machine.specs.declared.RunAnswer.TheVariants as RunAnswer
 use Rattle.machine.specs.declared.StepAnswer.{StepAnswer}
-use Rattle.machine.specs.declared.StepAnswer.TheVariants as StepAnswer
 use Rattle.machine.specs.Entry.{Said, refused, ended, went, halted, faulted, Shown, shown, run_said, step_said}
 
 abbrev ran_refused : Bool → RunAnswer

@@ -4,7 +4,6 @@ use Rattle.std.proofs.Common.{◌≡◌, ℕ, zero, suc, ◌+◌, ◌*◌, ◌<�
 use Rattle.word.specs.Word.{Cell, At, Nowhere}
 use Rattle.instruction.specs.Instruction.{Instruction, ins, Fetched, outside, unknown, found, decode, fetch, count_of}
 use Rattle.machine.specs.declared.Move.{Move}
-use Rattle.machine.specs.declared.Move.TheVariants as Move
 use Rattle.machine.specs.Inside.{moved}
 use Rattle.machine.specs.Step.{Next, Go, Halt, Fault, Did, did, loads, stores, jumps_to, branches, rules, perform, tried, step_of, cell_at, read_of}
 use Rattle.machine.specs.Run.{follow, run_of}

@@ -6,9 +6,7 @@ use Rattle.machine.specs.declared.Ending.{Ending}
 use Rattle.machine.specs.declared.Sizes.{Sizes}
 use Rattle.machine.specs.declared.Sizes.TheVariants.{Fine, CodeWords, MemoryCells}
 use Rattle.machine.specs.declared.RunAnswer.{RunAnswer}
-use Rattle.machine.specs.declared.RunAnswer.TheVariants as RunAnswer
 use Rattle.machine.specs.declared.StepAnswer.{StepAnswer}
-use Rattle.machine.specs.declared.StepAnswer.TheVariants as StepAnswer
 use Rattle.machine.specs.Step.{Next, Go, Halt, Fault, Did, step_of}
 use Rattle.machine.specs.Run.{Ran, run_of}
 

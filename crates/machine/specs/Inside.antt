@@ -2,9 +2,7 @@
 use Rattle.std.specs.Prelude.{ℕ, suc}
 use Rattle.word.specs.Word.{Cell, At, Nowhere}
 use Rattle.machine.specs.declared.Move.{Move}
-use Rattle.machine.specs.declared.Move.TheVariants as Move
 use Rattle.machine.specs.declared.operation.Found.{Found}
-use Rattle.machine.specs.declared.operation.Found.TheVariants as Found
 use Rattle.machine.specs.Step.{Next, Go, Halt, Fault}
 
 -- where each case of `Move` leads from place p

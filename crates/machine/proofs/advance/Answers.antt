@@ -1,5 +1,5 @@
 -- `advance`: the place, then the form, then the instruction's rule.
-use Rattle.std.proofs.Common.{sym, ◌∙◌, rules, lt-ltb}
+use Rattle.std.proofs.Common.{sym, ◌∙◌, lt-ltb}
 use Rattle.instruction.proofs.Forms.{decode_back, decode_none}
 use Rattle.instruction.specs.Instruction.{fetch}
 use Rattle.machine.specs.Step.{step_of, tried}

@@ -1,7 +1,6 @@
 -- `proceed`: at each turn what is left to run, limit - place steps, is the whole run from its start.
-use Rattle.std.proofs.Common.{◌≡◌, suc, ◌+◌, ◌-◌, ◌<◌, ◌≤◌, min, length, get_or, refl, ap, ◌∙◌, add-one, arith, rules}
+use Rattle.std.proofs.Common.{◌≡◌, suc, ◌+◌, ◌-◌, ◌<◌, refl, ap, ◌∙◌, add-one, arith}
 use Rattle.machine.specs.Inside.{moved}
-use Rattle.machine.specs.Run.{run_of}
 use Rattle.machine.proofs.Cleared.{step_cleared}
 use Rattle.machine.proofs.Places.{step_to}
 use Rattle.machine.proofs.Runs.{run_go, run_halt, run_fault, run_out, step_outside}
@@ -30,7 +29,7 @@ loop-place-preserved-in-On c =
     let l = c.loop-place in let d = c.advance-next in
     let t : l.place < l.limit = omega (arith, l.invariant.3, c.loop-place-test.true) in
     let i : l.limit - (l.place + 1) ≡ l.limit - l.place - 1 = omega arith in
-    (omega (arith, t), omega (arith, l.invariant.1), l.invariant.2, l.invariant.3, d.auto.1.1.1.0 ∙ l.invariant.4, rw (i, add-one) (run_go _ _ _ _ _ _ _ d.ensures (l.limit - l.place) (suc l.place) (omega (arith, t)) (ap (moved l.place) c.in-On.is) ∙ l.invariant.5), step_cleared _ _ _ _ _ _ _ d.ensures l.invariant.6)
+    (omega (arith, t), omega (arith, l.invariant.1), l.invariant.2, l.invariant.3, d.auto.m ∙ l.invariant.4, rw (i, add-one) (run_go _ _ _ _ _ _ _ d.ensures (l.limit - l.place) (suc l.place) (omega (arith, t)) (ap (moved l.place) c.in-On.is) ∙ l.invariant.5), step_cleared _ _ _ _ _ _ _ d.ensures l.invariant.6)
 
 pub overflow_add-limit-in-To : goal.overflow_add-limit-in-To
 overflow_add-limit-in-To c =
@@ -43,7 +42,7 @@ loop-place-preserved c =
     let h = step_to _ _ _ _ _ _ _ _ d.ensures c.in-To.is in
     let t : l.place < l.limit = omega (arith, l.invariant.3, c.loop-place-test.true) in
     let i : q + (l.limit - l.place - 1) - q ≡ l.limit - l.place - 1 = omega arith in
-    (omega arith, omega (arith, l.invariant.1), omega (arith, h, c.requires.0, l.invariant.1, c.ranges.budget.fits), c.smaller-stop-in-To.ensures, d.auto.1.1.1.0 ∙ l.invariant.4, rw i (run_go _ _ _ _ _ _ _ d.ensures (l.limit - l.place) q (omega (arith, t)) (ap (moved l.place) c.in-To.is) ∙ l.invariant.5), step_cleared _ _ _ _ _ _ _ d.ensures l.invariant.6)
+    (omega arith, omega (arith, l.invariant.1), omega (arith, h, c.requires.0, l.invariant.1, c.ranges.budget.fits), c.smaller-stop-in-To.ensures, d.auto.m ∙ l.invariant.4, rw i (run_go _ _ _ _ _ _ _ d.ensures (l.limit - l.place) q (omega (arith, t)) (ap (moved l.place) c.in-To.is) ∙ l.invariant.5), step_cleared _ _ _ _ _ _ _ d.ensures l.invariant.6)
 
 pub stopped-requires : goal.stopped-requires
 stopped-requires c = omega (arith, c.loop-place.invariant.1, c.ranges.budget.fits)

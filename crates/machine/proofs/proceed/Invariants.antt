@@ -1,10 +1,6 @@
 -- `proceed`: at each turn what is left to run, limit - place steps, is the whole run from its start.
-use Rattle.std.proofs.Common.{◌≡◌, suc, ◌+◌, ◌-◌, ◌<◌, ◌≤◌, min, length, get_or, refl, ap, ◌∙◌, add-one, arith, rules}
-use Rattle.machine.specs.Inside.{moved}
+use Rattle.std.proofs.Common.{◌≡◌, ◌+◌, ◌-◌, ◌<◌, ◌≤◌, min, length, get_or}
 use Rattle.machine.specs.Run.{run_of}
-use Rattle.machine.proofs.Cleared.{step_cleared}
-use Rattle.machine.proofs.Places.{step_to}
-use Rattle.machine.proofs.Runs.{run_go, run_halt, run_fault, run_out, step_outside}
 use Rattle.machine.proofs.proceed.Given as goal
 
 abbrev pub invariant-loop-place : goal.invariant-loop-place

@@ -1,6 +1,5 @@
 -- `step_in_place`: a single step is a run under the budget 1.
 use Rattle.machine.proofs.Entries.{as_step_lem}
-use Rattle.std.proofs.Common.{rules}
 use Rattle.machine.proofs.step_in_place.Goals as goal
 
 pub returns-in-CodeRefused : goal.returns-in-CodeRefused

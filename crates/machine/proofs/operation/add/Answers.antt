@@ -1,5 +1,4 @@
 -- `add`: what is read, summed and written.
-use Rattle.std.proofs.Common.{rules}
 use Rattle.machine.proofs.operation.add.Goals as goal
 
 pub returns : goal.returns

@@ -1,5 +1,4 @@
 -- `addi`: the number and what is read, summed and written.
-use Rattle.std.proofs.Common.{rules}
 use Rattle.machine.proofs.operation.addi.Goals as goal
 
 pub returns : goal.returns

@@ -1,5 +1,4 @@
 -- `beq`: the branch on equal readings.
-use Rattle.std.proofs.Common.{rules}
 use Rattle.machine.proofs.operation.beq.Goals as goal
 
 pub returns : goal.returns

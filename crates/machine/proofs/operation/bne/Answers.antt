@@ -1,5 +1,4 @@
 -- `bne`: the branch on unequal readings.
-use Rattle.std.proofs.Common.{rules}
 use Rattle.machine.proofs.operation.bne.Goals as goal
 
 pub returns : goal.returns

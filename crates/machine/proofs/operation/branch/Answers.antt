@@ -1,5 +1,4 @@
 -- `branch`: a jump where it is taken, else the next place.
-use Rattle.std.proofs.Common.{rules}
 use Rattle.machine.proofs.operation.branch.Goals as goal
 
 pub returns-then-taken : goal.returns-then-taken

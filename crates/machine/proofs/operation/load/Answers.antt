@@ -1,5 +1,5 @@
 -- `load`: by the two cases of the cell.
-use Rattle.std.proofs.Common.{ap, arith, rules}
+use Rattle.std.proofs.Common.{ap, arith}
 use Rattle.word.proofs.Biased.{cell_within}
 use Rattle.machine.specs.Inside.{cell_said}
 use Rattle.machine.proofs.operation.load.Goals as goal

@@ -1,5 +1,4 @@
 -- `mul`: what is read, its product written.
-use Rattle.std.proofs.Common.{rules}
 use Rattle.machine.proofs.operation.mul.Goals as goal
 
 pub returns : goal.returns

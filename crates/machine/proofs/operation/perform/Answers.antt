@@ -1,9 +1,9 @@
 -- `perform`: each arm is its operation's rule; that the words are formed bounds its registers.
 use lib.ListN.{get_or-eq_default}
-use Rattle.instruction.proofs.Forms.{others, registers_below}
+use Rattle.instruction.proofs.Forms.{registers_below}
 use Rattle.instruction.specs.Instruction.{formed, operation_of, operations}
 use Rattle.machine.specs.Step.{perform}
-use Rattle.std.proofs.Common.{rules}
+use Rattle.std.proofs.Common.{◌≤◌, arith}
 use Rattle.machine.proofs.operation.perform.Goals as goal
 
 pub add-requires : goal.add-requires
@@ -92,4 +92,4 @@ returns-in-11 c p = rw (c.in-11.is, c.slt.ensures.0 p, c.slt.ensures.1)
 
 pub returns-in_default : goal.returns-in_default
 unfolding perform
-returns-in_default c p = rw (get_or-eq_default _ _ (others _ 12 _ c.in_default.in_default-own.rest))
+returns-in_default c p = let h : 12 ≤ c.args.op = omega arith in rw (get_or-eq_default _ _ h)

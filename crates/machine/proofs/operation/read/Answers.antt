@@ -1,6 +1,5 @@
 -- `read`: place 0 holds 0, so a register reads as what it holds.
 use Rattle.machine.proofs.Cleared.{read_cleared}
-use Rattle.std.proofs.Common.{rules}
 use Rattle.machine.proofs.operation.read.Goals as goal
 
 pub returns : goal.returns

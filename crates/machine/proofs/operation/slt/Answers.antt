@@ -1,5 +1,4 @@
 -- `slt`: what is read, compared, and 1 or 0 written.
-use Rattle.std.proofs.Common.{rules}
 use Rattle.machine.proofs.operation.slt.Goals as goal
 
 pub returns : goal.returns

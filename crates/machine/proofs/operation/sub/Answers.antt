@@ -1,5 +1,4 @@
 -- `sub`: what is read, its difference written.
-use Rattle.std.proofs.Common.{rules}
 use Rattle.machine.proofs.operation.sub.Goals as goal
 
 pub returns : goal.returns

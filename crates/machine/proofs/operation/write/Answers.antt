@@ -1,5 +1,5 @@
 -- `write`: a result for $0 faults, any other is stored.
-use Rattle.std.proofs.Common.{arith, rules, eq-eqb, ne_eqb}
+use Rattle.std.proofs.Common.{arith, eq-eqb, ne_eqb}
 use Rattle.machine.proofs.operation.write.Goals as goal
 
 pub returns-then-a-eq0 : goal.returns-then-a-eq0
