@@ -128,7 +128,7 @@ fn proceed(code: &[u32], from: usize, g: &mut [u32; 64], m: &mut [u32], budget: 
     let mut place = from;
     let mut limit = from + budget as usize;
     let mut stop = smaller(count, limit);
-    while place < stop {
+    'turns: while place < stop {
         let next = advance(code, place, g, m);
         match next {
             Move::On => {

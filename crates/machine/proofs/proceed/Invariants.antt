@@ -3,9 +3,9 @@ use Rattle.std.proofs.Common.{◌≡◌, ◌+◌, ◌-◌, ◌<◌, ◌≤◌, m
 use Rattle.machine.specs.Run.{run_of}
 use Rattle.machine.proofs.proceed.Given as goal
 
-abbrev pub invariant-loop-place : goal.invariant-loop-place
-invariant-loop-place l =
+abbrev pub invariant-turns : goal.invariant-turns
+invariant-turns l =
     (l.place ≤ l.limit) × (l.limit ≤ l.place + l.budget) × (l.limit < 8589934592) × (l.stop ≡ min l.count l.limit) × (length l.m ≡ length l.initial.m) × (run_of l.code (l.limit - l.place) l.place l.g l.m ≡ run_of l.code l.budget l.from l.initial.g l.initial.m) × (get_or l.g 0 0 ≡ 0)
 
-abbrev pub decreases-loop-place : goal.decreases-loop-place
-decreases-loop-place l = l.limit - l.place
+abbrev pub decreases-turns : goal.decreases-turns
+decreases-turns l = l.limit - l.place
