@@ -1,5 +1,6 @@
 pub mod Numbers
 pub mod Reading
+pub mod Known
 pub mod Pools
 pub mod Sizes
 pub mod Emitting

@@ -1,0 +1,7 @@
+use mathlib.Core.Path.{sym}
+use Rattle.compiler.proofs.Emitting.{after_add}
+use borrow.Author.Rules.{rules}
+use Rattle.compiler.proofs.construct.label.Goals as goal
+
+pub returns : goal.returns
+returns c = sym (after_add c.args.over c.args.at)

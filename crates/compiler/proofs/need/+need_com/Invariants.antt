@@ -1,0 +1,4 @@
+use Rattle.compiler.proofs.need.+need_com.Given as goal
+
+abbrev pub decreases-need_com : goal.decreases-need_com
+decreases-need_com l = l.row

@@ -1,0 +1,4 @@
+use Rattle.compiler.proofs.size.+size_exp.Given as goal
+
+abbrev pub decreases-size_exp : goal.decreases-size_exp
+decreases-size_exp l = l.row
