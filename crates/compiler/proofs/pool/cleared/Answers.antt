@@ -9,7 +9,6 @@ use Prim.Native.Nat.{ℕ, ◌*◌, ◌-◌, ◌^◌, ◌%◌, ◌<◌}
 use mathlib.Core.Path.{◌≡◌, ap, ◌∙◌}
 use Rattle.compiler.proofs.pool.cleared.Goals as goal
 
--- TODO
 shifted : (t : ℕ) → t < 64 → 1 * 2 ^ t % 2 ^ 64 ≡ 2 ^ t
 shifted t h = ap (λ (m : ℕ). m % 2 ^ 64) (one-mul (2 ^ t)) ∙ mod-eq_of_lt (pow-lt h)
 
