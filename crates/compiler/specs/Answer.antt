@@ -3,7 +3,6 @@ use Rattle.std.specs.Prelude.{cond, List, ℕ, ◌+◌, ◌*◌, ◌%◌, eqb, l
 use Rattle.instruction.specs.Instruction.{assemble}
 use Rattle.refusal.specs.declared.Verdict.{Verdict}
 use Rattle.refusal.specs.declared.Verdict.TheVariants.{Passes, Refuses}
-use Rattle.rule.specs.Tree.{Com}
 use Rattle.rule.specs.Table.{first_cell, binding_of, declaration_rows, program}
 use Rattle.refusal.specs.Refusal.{◌and_then◌, laid_over}
 use Rattle.rule.specs.Check.{node_words, declaration_words, declarations, rows, used_once}

@@ -8,7 +8,7 @@ use Rattle.refusal.specs.Refusal.{◌and_then◌}
 use Rattle.rule.specs.Check.{node_words, declaration_words}
 use Rattle.rule.proofs.Verdicts.{both_pass}
 use Rattle.rule.proofs.Answers.{words-verdict}
-use Rattle.compiler.specs.Answer.{Said, refused, pool_bit, compiled, verdict}
+use Rattle.compiler.specs.Answer.{refused, pool_bit, compiled, verdict}
 use Rattle.compiler.proofs.Answers.{bit-set, bit_clear, after-passed}
 use Rattle.compiler.proofs.Ready.{tables_rest, words_then, said_by, leaves_by}
 use Rattle.compiler.proofs.compile.Goals as goal

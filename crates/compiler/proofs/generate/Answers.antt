@@ -1,4 +1,4 @@
-use Prim.Native.Nat.{ℕ, ◌+◌}
+use Prim.Native.Nat.{◌+◌}
 use native.Mathlib.Omega.{arith}
 use lib.ListN.{length}
 use Rattle.rule.specs.Table.{binding_of, com_at}
@@ -19,10 +19,10 @@ returns-then-code-wide-clause-answer c =
     let h = rw c.count.ensures at c.if-count-need.false in
     let g = rw c.wide.ensures at c.if-code-wide.true in
     rw (
-        ← c.need_com-need.ensures.value,
-        ← c.size_com-instructions.ensures,
-        enough-registers _ _ h,
-        no_room (c.size_com-instructions.result + 1) (length c.args.code.now) (omega (arith, g))
+      ← c.need_com-need.ensures.value,
+      ← c.size_com-instructions.ensures,
+      enough-registers _ _ h,
+      no_room (c.size_com-instructions.result + 1) (length c.args.code.now) (omega (arith, g)),
     )
 
 pub put-requires : goal.put-requires

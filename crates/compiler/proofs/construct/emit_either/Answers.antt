@@ -1,7 +1,6 @@
 use mathlib.Core.Path.{ap}
 use Rattle.compiler.specs.Inside.{either_way}
 use Rattle.compiler.proofs.Emitting.{emitted_as, emitted_then}
-use borrow.Author.Rules.{rules}
 use Rattle.compiler.proofs.construct.emit_either.Goals as goal
 
 pub returns : goal.returns

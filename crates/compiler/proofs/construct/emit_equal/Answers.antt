@@ -1,5 +1,4 @@
 use Rattle.compiler.proofs.Emitting.{emitted_as, emitted_then}
-use borrow.Author.Rules.{rules}
 use Rattle.compiler.proofs.construct.emit_equal.Goals as goal
 
 pub returns : goal.returns

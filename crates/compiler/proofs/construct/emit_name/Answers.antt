@@ -9,7 +9,6 @@ use Rattle.compiler.specs.Inside.{Room}
 use Rattle.compiler.specs.Compile.{size_named, named_code}
 use Rattle.compiler.proofs.Bindings.{binding_constant, stored}
 use Rattle.compiler.proofs.Emitting.{emitted_as, emitted_then}
-use borrow.Author.Rules.{rules}
 use Rattle.compiler.proofs.construct.emit_name.Goals as goal
 
 pub put-requires : goal.put-requires

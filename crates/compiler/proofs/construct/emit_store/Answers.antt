@@ -4,7 +4,6 @@ use mathlib.Core.List.{[], ◌∷◌}
 use mathlib.Core.Path.{ap}
 use Rattle.instruction.specs.Instruction.{ins, addi, store}
 use Rattle.compiler.proofs.Emitting.{emitted_as, emitted_then}
-use borrow.Author.Rules.{rules}
 use Rattle.compiler.proofs.construct.emit_store.Goals as goal
 
 pub returns : goal.returns

@@ -1,6 +1,5 @@
 use mathlib.Core.Path.{sym}
 use Rattle.compiler.proofs.Emitting.{after_add}
-use borrow.Author.Rules.{rules}
 use Rattle.compiler.proofs.construct.label.Goals as goal
 
 pub returns : goal.returns

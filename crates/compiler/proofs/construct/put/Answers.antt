@@ -2,7 +2,6 @@ use Rattle.instruction.specs.Instruction.{encode, assemble}
 use lib.ListN.{length-set}
 use native.Mathlib.Numerals.{towards_suc}
 use native.Mathlib.Omega.{arith}
-use borrow.Author.Rules.{rules}
 use Rattle.compiler.proofs.construct.put.Goals as goal
 
 pub bounds-code-word-2 : goal.bounds-code-word-2

@@ -9,7 +9,7 @@ use Rattle.rule.specs.Tree.{Binding, Exp, base}
 use Rattle.rule.specs.Kind.{kind_of}
 use Rattle.rule.specs.Table.{word, binding_of, exp_at}
 use Rattle.compiler.specs.Pool.{registers_of, without}
-use Rattle.compiler.specs.Compile.{need_named, size_named, need_exp, size_exp, named_code, load_code, left_pool, t_exp}
+use Rattle.compiler.specs.Compile.{need_named, size_named, need_exp, size_exp, named_code, load_code, t_exp}
 use Rattle.compiler.specs.Inside.{op_of, Rows, Based, ExpRow, Room, Emitted, Fit}
 use Rattle.compiler.proofs.Bindings.{base_array}
 use Rattle.compiler.proofs.Emitting.{emitted_as}
@@ -137,9 +137,9 @@ returns-then-kind-eq-ELEMENT t c =
     let known = at_exp w R.array_known c.if-kind-eq-ELEMENT.true in
     let x = exp_laid (ρ w) w.ns c.link-then-kind-eq-ELEMENT.result (named w 2) c.link-then-kind-eq-ELEMENT.ensures c.lowest-t.result G c.emit_exp-p.ensures in
     let cell : get_or bs c.link-then-kind-eq-ELEMENT-2.result 0 ≡ base (ρ w n) =
-        ap (λ (m : ℕ). get_or bs m 0) c.link-then-kind-eq-ELEMENT-2.ensures
-        ∙ (based_at w.ds w.ns bs w.all c.requires.based n known.0).1
-        ∙ sym (base_array w.ds n known.1) in
+    ap (λ (m : ℕ). get_or bs m 0) c.link-then-kind-eq-ELEMENT-2.ensures
+    ∙ (based_at w.ds w.ns bs w.all c.requires.based n known.0).1
+    ∙ sym (base_array w.ds n known.1) in
     let y = emitted_as c.emit_load.ensures (ap (λ (a : ℕ). load_code a c.args.target c.lowest-t.result G) cell) in
     done w c.args.target F (at_exp w R.element_read c.if-kind-eq-ELEMENT.true)
     (element_emitted (ρ w) c.args.target F c.args.at c.lowest-t.ensures c.cleared-rest.ensures n (op w 2) x y)
@@ -225,4 +225,4 @@ returns t c =
     let y = exp_laid (ρ w) w.ns c.link-3.result (named w 2) c.link-3.ensures c.lowest-u.result (registers_of c.cleared-remaining.result) c.emit_exp-q.ensures in
     done w c.args.target F (at_exp w R.binary_read c.if-kind-eq-VALUE.false c.if-kind-eq-IDENTIFIER.false c.if-kind-eq-ELEMENT.false c.if-kind-eq-NOT.false)
     (binary_emitted (ρ w) c.args.target F c.args.at c.lowest-t.ensures c.cleared-rest.ensures (op w 1) (op w 2) (op_of (kind_of w.k)) c.lowest-u.ensures
-        c.cleared-remaining.ensures x y c.emit_operator.ensures)
+    c.cleared-remaining.ensures x y c.emit_operator.ensures)

@@ -81,6 +81,6 @@ returns c =
     let y = exp_laid (ρ w) w.ns c.link.result (named w 2) c.link.ensures c.lowest-t.result G c.emit_exp-p.ensures in
     let n = at_com w R.assign_name c.requires.com_row.1 in
     let cell : get_or bs c.link-2.result 0 ≡ base (ρ w x) =
-        ap (λ (m : ℕ). get_or bs m 0) c.link-2.ensures ∙ (based_at w.ds w.ns bs w.all c.requires.based x n.0).1 ∙ sym (base_variable w.ds x n.1) in
+    ap (λ (m : ℕ). get_or bs m 0) c.link-2.ensures ∙ (based_at w.ds w.ns bs w.all c.requires.based x n.0).1 ∙ sym (base_variable w.ds x n.1) in
     let z = emitted_as c.emit_store.ensures (ap (λ (a : ℕ). store_code a 0 c.lowest-t.result G) cell) in
     done w F (at_com w R.assign_read c.requires.com_row.1) (assign_emitted (ρ w) F c.args.at c.lowest-t.ensures c.cleared-rest.ensures (op w 2) y x z)

@@ -108,7 +108,7 @@ returns c =
     let z = exp_laid (ρ w) w.ns c.link-2.result (named w 3) c.link-2.ensures c.lowest-u.result H c.emit_exp-q.ensures in
     let n = at_com w R.assign_at_name c.requires.com_row.1 in
     let cell : get_or bs c.link-3.result 0 ≡ base (ρ w x) =
-        ap (λ (m : ℕ). get_or bs m 0) c.link-3.ensures ∙ (based_at w.ds w.ns bs w.all c.requires.based x n.0).1 ∙ sym (base_array w.ds x n.1) in
+    ap (λ (m : ℕ). get_or bs m 0) c.link-3.ensures ∙ (based_at w.ds w.ns bs w.all c.requires.based x n.0).1 ∙ sym (base_array w.ds x n.1) in
     let u = emitted_as c.emit_store.ensures (ap (λ (a : ℕ). store_code a c.lowest-t.result c.lowest-u.result H) cell) in
     done w F (at_com w R.assign_at_read c.requires.com_row.1)
     (assign_at_emitted (ρ w) F c.args.at c.lowest-t.ensures c.cleared-rest.ensures (op w 2) y x (op w 3) c.lowest-u.ensures c.cleared-left.ensures z u)

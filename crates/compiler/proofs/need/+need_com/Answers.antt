@@ -28,7 +28,7 @@ module _ (w : KnownCom) where
 
 pub returns-then-kind-eq-SKIP-clause-value : goal.returns-then-kind-eq-SKIP-clause-value
 unfolding need_com
-returns-then-kind-eq-SKIP-clause-value t c = 
+returns-then-kind-eq-SKIP-clause-value t c =
     let w = known_com c.requires.rows c.requires.com_row c.word-kind.ensures in
     read w (at_com w R.skip_read c.if-kind-eq-SKIP.true)
 
@@ -59,7 +59,7 @@ returns-then-kind-eq-SEQUENCE-clause-value t c =
     e ∙ ap₂ max g g' ∙ read w (at_com w R.sequence_read c.if-kind-eq-SEQUENCE.true)
 
 pub need_exp-test-requires-clause-exp_row : goal.need_exp-test-requires-clause-exp_row
-need_exp-test-requires-clause-exp_row t c = 
+need_exp-test-requires-clause-exp_row t c =
     let w = known_com c.requires.rows c.requires.com_row c.word-kind.ensures in
     subst (ExpRow w.ns) (sym c.link-2.ensures) (at_com w R.test c.if-kind-eq-SKIP.false c.if-kind-eq-ASSIGN.false c.if-kind-eq-ASSIGN_ELEMENT.false c.if-kind-eq-SEQUENCE.false).row
 

@@ -1,5 +1,4 @@
 use mathlib.Core.Path.{◌≡◌, sym, ap, ap₂, ◌∙◌}
-use mathlib.Core.List.{List}
 use Prim.Native.Nat.{ℕ, ◌+◌, max}
 use Rattle.rule.specs.Table.{word, binding_of, exp_at}
 use Rattle.compiler.specs.Compile.{need_named, need_exp}

@@ -1,7 +1,6 @@
 use Rattle.compiler.proofs.Bindings.{binding_constant, stored}
 use Rattle.compiler.specs.Compile.{size_named}
 use mathlib.Core.Path.{sym, ap}
-use borrow.Author.Rules.{rules}
 use Rattle.compiler.proofs.size.size_name.Goals as goal
 
 pub returns-then-declarations-x-eq-CONSTANT : goal.returns-then-declarations-x-eq-CONSTANT
