@@ -14,6 +14,8 @@ import sys
 
 NAME = r"[^\s(){}.;,@\"«»\[\]|`]+"
 DECLARED = re.compile(r"^\s*(?:(?:pub|abbrev|unfoldable|data|record|axiom)\s+)*(" + NAME + r")(?: \{[^{}\n]*\}| \([^()\n]*\))* :(?!:)", re.M)
+# Constructors that share a line.
+SHARED = re.compile(r"^  ((?:[a-z]\S* )+[a-z]\S*) : ", re.M)
 USE = re.compile(r"^(?:pub )?(?:ghost )?use ([^\s;{]+?)\.?(\{[^}]*\})?(?: as [^\s;]+)?;?$", re.M)
 FIXED = {"Texp": "t_exp", "Tcom": "t_com", "Tprog": "t_prog", "as_step": "as_step_lem"}
 # What follows these heads in a proof of a function is a name that Rattle makes.
@@ -64,11 +66,12 @@ def main(dry):
     declared = {}
     for p in files:
         if p.endswith(".antt") and not is_walk(p):
-            for n in DECLARED.findall(read(p)):
+            text = read(p)
+            for n in DECLARED.findall(text) + " ".join(SHARED.findall(text)).split():
                 declared.setdefault(n, set()).add(p)
     turned = {}
     for n in sorted(declared):
-        if turnable(n):
+        if turnable(n) and (n != "as_step" or "asStep" in declared):
             turned[n] = snake(n)
     # Names that fall together: the lemma, whose name has a dash, gives way.
     by_new = {}

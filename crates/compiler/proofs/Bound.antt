@@ -8,7 +8,7 @@ use native.Mathlib.Omega.{arith}
 use lib.ListN.{length}
 use Rattle.refusal.specs.declared.Verdict.TheVariants.{Passes}
 use Rattle.rule.specs.Tree.{Op, plus, minus, times, less, equal, both, either, Exp, Com, Binding, constant, variable, array}
-use Rattle.rule.specs.Kind.{Kind, unknown, aValue, anIdent, anElement, a_binary, aNot, aSkip, anAssign, anAssignAt, aSequence, anIf, aWhile, words_of, first, second, third, is_expression, is_command}
+use Rattle.rule.specs.Kind.{Kind, unknown, a_value, an_ident, an_element, a_binary, a_not, a_skip, an_assign, an_assign_at, a_sequence, an_if, a_while, words_of, first, second, third, is_expression, is_command}
 use Rattle.rule.specs.Table.{node_rows, word, kind_at, exp_of, com_of, exp_at, com_at}
 use Rattle.rule.specs.Check.{rows, used_once}
 use Rattle.rule.proofs.Count.{word_sum, row_sum}
@@ -33,17 +33,17 @@ operator_small either = omega arith
 
 no_expression : (x : Kind) → is_command x ≡ true → is_expression x ≡ false
 no_expression unknown e = refl
-no_expression aValue e = sym e
-no_expression anIdent e = sym e
-no_expression anElement e = sym e
+no_expression a_value e = sym e
+no_expression an_ident e = sym e
+no_expression an_element e = sym e
 no_expression (a_binary op) e = sym e
-no_expression aNot e = sym e
-no_expression aSkip e = refl
-no_expression anAssign e = refl
-no_expression anAssignAt e = refl
-no_expression aSequence e = refl
-no_expression anIf e = refl
-no_expression aWhile e = refl
+no_expression a_not e = sym e
+no_expression a_skip e = refl
+no_expression an_assign e = refl
+no_expression an_assign_at e = refl
+no_expression a_sequence e = refl
+no_expression an_if e = refl
+no_expression a_while e = refl
 
 module _ (ρ : ℕ → Binding) (ns : List ℕ) where
   -- the size of a row's tree, by its sort
@@ -97,11 +97,11 @@ module _ (ρ : ℕ → Binding) (ns : List ℕ) where
     step : (x : Kind) → kind_at ns i ≡ x → RowInOrder ds ns i (words_of x) → Small x
     unfolding size_exp size_com
     step unknown e r = absurd r.0
-    step aValue e r = let h = own aValue e refl in omega arith
-    step anIdent e r = let h = own anIdent e refl in let n = named_small (ρ (word ns i 1)) in omega arith
-    step anElement e r =
-        let h = own anElement e refl in
-        let a = operand anElement e refl 2 r.1.0 r.1.1 in
+    step a_value e r = let h = own a_value e refl in omega arith
+    step an_ident e r = let h = own an_ident e refl in let n = named_small (ρ (word ns i 1)) in omega arith
+    step an_element e r =
+        let h = own an_element e refl in
+        let a = operand an_element e refl 2 r.1.0 r.1.1 in
         omega arith
     step (a_binary op) e r =
         let h = own (a_binary op) e refl in
@@ -109,35 +109,35 @@ module _ (ρ : ℕ → Binding) (ns : List ℕ) where
         let b = operand (a_binary op) e refl 2 r.1.0 r.1.1 in
         let n = operator_small op in
         omega arith
-    step aNot e r =
-        let h = own aNot e refl in
-        let a = operand aNot e refl 1 r.0.0 r.0.1 in
+    step a_not e r =
+        let h = own a_not e refl in
+        let a = operand a_not e refl 1 r.0.0 r.0.1 in
         omega arith
-    step aSkip e r = let h = own_com aSkip e refl in omega arith
-    step anAssign e r =
-        let h = own_com anAssign e refl in
+    step a_skip e r = let h = own_com a_skip e refl in omega arith
+    step an_assign e r =
+        let h = own_com an_assign e refl in
         let a = exp_size (word ns i 2) r.1.1 in
         omega arith
-    step anAssignAt e r =
-        let h = own_com anAssignAt e refl in
+    step an_assign_at e r =
+        let h = own_com an_assign_at e refl in
         let a = exp_size (word ns i 2) r.1.1 in
         let b = exp_size (word ns i 3) r.2.1 in
         omega arith
-    step aSequence e r =
-        let h = own_com aSequence e refl in
-        let a = part aSequence e refl 1 r.0.0 r.0.1 in
-        let b = part aSequence e refl 2 r.1.0 r.1.1 in
+    step a_sequence e r =
+        let h = own_com a_sequence e refl in
+        let a = part a_sequence e refl 1 r.0.0 r.0.1 in
+        let b = part a_sequence e refl 2 r.1.0 r.1.1 in
         omega arith
-    step anIf e r =
-        let h = own_com anIf e refl in
+    step an_if e r =
+        let h = own_com an_if e refl in
         let a = exp_size (word ns i 1) r.0.1 in
-        let b = part anIf e refl 2 r.1.0 r.1.1 in
-        let d = part anIf e refl 3 r.2.0 r.2.1 in
+        let b = part an_if e refl 2 r.1.0 r.1.1 in
+        let d = part an_if e refl 3 r.2.0 r.2.1 in
         omega arith
-    step aWhile e r =
-        let h = own_com aWhile e refl in
+    step a_while e r =
+        let h = own_com a_while e refl in
         let a = exp_size (word ns i 1) r.0.1 in
-        let b = part aWhile e refl 2 r.1.0 r.1.1 in
+        let b = part a_while e refl 2 r.1.0 r.1.1 in
         omega arith
 
     row_small : row_size i ≤ 4 + row_sum row_size ns i

@@ -11,7 +11,7 @@ use lib.Dec.{eqb}
 use lib.ListN.{get_or}
 use borrow.Author.Tests.{eqb-true}
 use Rattle.rule.specs.Tree.{Op, plus, minus, times, less, equal, both, either}
-use Rattle.rule.specs.Kind.{Kind, unknown, aValue, anIdent, anElement, a_binary, aNot, aSkip, anAssign, anAssignAt, aSequence, anIf, aWhile, kinds, kind_of, is_expression, is_command}
+use Rattle.rule.specs.Kind.{Kind, unknown, a_value, an_ident, an_element, a_binary, a_not, a_skip, an_assign, an_assign_at, a_sequence, an_if, a_while, kinds, kind_of, is_expression, is_command}
 use Rattle.compiler.specs.Inside.{op_of, Binary}
 use Rattle.compiler.specs.Compile.{size_op}
 
@@ -26,31 +26,31 @@ op_number either = 10
 
 number_of : Kind → ℕ
 number_of unknown = 0
-number_of aValue = 1
-number_of anIdent = 2
-number_of anElement = 3
+number_of a_value = 1
+number_of an_ident = 2
+number_of an_element = 3
 number_of (a_binary op) = op_number op
-number_of aNot = 11
-number_of aSkip = 16
-number_of anAssign = 17
-number_of anAssignAt = 18
-number_of aSequence = 19
-number_of anIf = 20
-number_of aWhile = 21
+number_of a_not = 11
+number_of a_skip = 16
+number_of an_assign = 17
+number_of an_assign_at = 18
+number_of a_sequence = 19
+number_of an_if = 20
+number_of a_while = 21
 
 is_known : Kind → Bool
 is_known unknown = false
-is_known aValue = true
-is_known anIdent = true
-is_known anElement = true
+is_known a_value = true
+is_known an_ident = true
+is_known an_element = true
 is_known (a_binary op) = true
-is_known aNot = true
-is_known aSkip = true
-is_known anAssign = true
-is_known anAssignAt = true
-is_known aSequence = true
-is_known anIf = true
-is_known aWhile = true
+is_known a_not = true
+is_known a_skip = true
+is_known an_assign = true
+is_known an_assign_at = true
+is_known a_sequence = true
+is_known an_if = true
+is_known a_while = true
 
 -- each known kind of a table that begins at b stands at its number
 in_place : ℕ → List Kind → Bool
@@ -82,32 +82,32 @@ number_back k e = number_from 0 kinds all_in_place k e ∙ (let z : 0 + k ≡ k 
 expression_known : (x : Kind) → is_expression x ≡ true → is_known x ≡ true
 unfolding is_known
 expression_known unknown e = e
-expression_known aValue e = refl
-expression_known anIdent e = refl
-expression_known anElement e = refl
+expression_known a_value e = refl
+expression_known an_ident e = refl
+expression_known an_element e = refl
 expression_known (a_binary op) e = refl
-expression_known aNot e = refl
-expression_known aSkip e = refl
-expression_known anAssign e = refl
-expression_known anAssignAt e = refl
-expression_known aSequence e = refl
-expression_known anIf e = refl
-expression_known aWhile e = refl
+expression_known a_not e = refl
+expression_known a_skip e = refl
+expression_known an_assign e = refl
+expression_known an_assign_at e = refl
+expression_known a_sequence e = refl
+expression_known an_if e = refl
+expression_known a_while e = refl
 
 command_known : (x : Kind) → is_command x ≡ true → is_known x ≡ true
 unfolding is_known
 command_known unknown e = e
-command_known aValue e = refl
-command_known anIdent e = refl
-command_known anElement e = refl
+command_known a_value e = refl
+command_known an_ident e = refl
+command_known an_element e = refl
 command_known (a_binary op) e = refl
-command_known aNot e = refl
-command_known aSkip e = refl
-command_known anAssign e = refl
-command_known anAssignAt e = refl
-command_known aSequence e = refl
-command_known anIf e = refl
-command_known aWhile e = refl
+command_known a_not e = refl
+command_known a_skip e = refl
+command_known an_assign e = refl
+command_known an_assign_at e = refl
+command_known a_sequence e = refl
+command_known an_if e = refl
+command_known a_while e = refl
 
 module _ (k : ℕ) where
   -- an expression of none of the other numbers is a binary
@@ -115,17 +115,17 @@ module _ (k : ℕ) where
       → x ≡ a_binary (op_of x)
   unfolding number_of
   binary_by unknown e n1 n2 n3 n11 = absurd (true≢false (sym e))
-  binary_by aValue e n1 n2 n3 n11 = absurd (n1 refl)
-  binary_by anIdent e n1 n2 n3 n11 = absurd (n2 refl)
-  binary_by anElement e n1 n2 n3 n11 = absurd (n3 refl)
+  binary_by a_value e n1 n2 n3 n11 = absurd (n1 refl)
+  binary_by an_ident e n1 n2 n3 n11 = absurd (n2 refl)
+  binary_by an_element e n1 n2 n3 n11 = absurd (n3 refl)
   binary_by (a_binary op) e n1 n2 n3 n11 = refl
-  binary_by aNot e n1 n2 n3 n11 = absurd (n11 refl)
-  binary_by aSkip e n1 n2 n3 n11 = absurd (true≢false (sym e))
-  binary_by anAssign e n1 n2 n3 n11 = absurd (true≢false (sym e))
-  binary_by anAssignAt e n1 n2 n3 n11 = absurd (true≢false (sym e))
-  binary_by aSequence e n1 n2 n3 n11 = absurd (true≢false (sym e))
-  binary_by anIf e n1 n2 n3 n11 = absurd (true≢false (sym e))
-  binary_by aWhile e n1 n2 n3 n11 = absurd (true≢false (sym e))
+  binary_by a_not e n1 n2 n3 n11 = absurd (n11 refl)
+  binary_by a_skip e n1 n2 n3 n11 = absurd (true≢false (sym e))
+  binary_by an_assign e n1 n2 n3 n11 = absurd (true≢false (sym e))
+  binary_by an_assign_at e n1 n2 n3 n11 = absurd (true≢false (sym e))
+  binary_by a_sequence e n1 n2 n3 n11 = absurd (true≢false (sym e))
+  binary_by an_if e n1 n2 n3 n11 = absurd (true≢false (sym e))
+  binary_by a_while e n1 n2 n3 n11 = absurd (true≢false (sym e))
 
   pub is_binary : is_expression (kind_of k) ≡ true → (k ≡ 1 → ⊥) → (k ≡ 2 → ⊥) → (k ≡ 3 → ⊥) → (k ≡ 11 → ⊥) → kind_of k ≡ a_binary (op_of (kind_of k))
   is_binary e n1 n2 n3 n11 =
@@ -134,28 +134,28 @@ module _ (k : ℕ) where
 
   -- a command of none of the other numbers is an if or a while
   turn_by : (x : Kind) → is_command x ≡ true → (number_of x ≡ 16 → ⊥) → (number_of x ≡ 17 → ⊥) → (number_of x ≡ 18 → ⊥) → (number_of x ≡ 19 → ⊥)
-      → (x ≡ anIf) ⊎ (x ≡ aWhile)
+      → (x ≡ an_if) ⊎ (x ≡ a_while)
   unfolding number_of
   turn_by unknown e n6 n7 n8 n9 = absurd (true≢false (sym e))
-  turn_by aValue e n6 n7 n8 n9 = absurd (true≢false (sym e))
-  turn_by anIdent e n6 n7 n8 n9 = absurd (true≢false (sym e))
-  turn_by anElement e n6 n7 n8 n9 = absurd (true≢false (sym e))
+  turn_by a_value e n6 n7 n8 n9 = absurd (true≢false (sym e))
+  turn_by an_ident e n6 n7 n8 n9 = absurd (true≢false (sym e))
+  turn_by an_element e n6 n7 n8 n9 = absurd (true≢false (sym e))
   turn_by (a_binary op) e n6 n7 n8 n9 = absurd (true≢false (sym e))
-  turn_by aNot e n6 n7 n8 n9 = absurd (true≢false (sym e))
-  turn_by aSkip e n6 n7 n8 n9 = absurd (n6 refl)
-  turn_by anAssign e n6 n7 n8 n9 = absurd (n7 refl)
-  turn_by anAssignAt e n6 n7 n8 n9 = absurd (n8 refl)
-  turn_by aSequence e n6 n7 n8 n9 = absurd (n9 refl)
-  turn_by anIf e n6 n7 n8 n9 = inl refl
-  turn_by aWhile e n6 n7 n8 n9 = inr refl
+  turn_by a_not e n6 n7 n8 n9 = absurd (true≢false (sym e))
+  turn_by a_skip e n6 n7 n8 n9 = absurd (n6 refl)
+  turn_by an_assign e n6 n7 n8 n9 = absurd (n7 refl)
+  turn_by an_assign_at e n6 n7 n8 n9 = absurd (n8 refl)
+  turn_by a_sequence e n6 n7 n8 n9 = absurd (n9 refl)
+  turn_by an_if e n6 n7 n8 n9 = inl refl
+  turn_by a_while e n6 n7 n8 n9 = inr refl
 
   pub is_if_or_while : is_command (kind_of k) ≡ true → (k ≡ 16 → ⊥) → (k ≡ 17 → ⊥) → (k ≡ 18 → ⊥) → (k ≡ 19 → ⊥)
-      → (kind_of k ≡ anIf) ⊎ (kind_of k ≡ aWhile)
+      → (kind_of k ≡ an_if) ⊎ (kind_of k ≡ a_while)
   is_if_or_while e n6 n7 n8 n9 =
       let b = number_back k (command_known (kind_of k) e) in
       turn_by (kind_of k) e (λ q. n6 (sym b ∙ q)) (λ q. n7 (sym b ∙ q)) (λ q. n8 (sym b ∙ q)) (λ q. n9 (sym b ∙ q))
 
-  pub if_by_number : is_command (kind_of k) ≡ true → (k ≡ 21 → ⊥) → (kind_of k ≡ anIf) ⊎ (kind_of k ≡ aWhile) → kind_of k ≡ anIf
+  pub if_by_number : is_command (kind_of k) ≡ true → (k ≡ 21 → ⊥) → (kind_of k ≡ an_if) ⊎ (kind_of k ≡ a_while) → kind_of k ≡ an_if
   unfolding number_of
   if_by_number e n (inl q) = q
   if_by_number e n (inr q) = absurd (n (sym (number_back k (command_known (kind_of k) e)) ∙ ap number_of q))

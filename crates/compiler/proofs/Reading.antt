@@ -11,7 +11,7 @@ use native.Mathlib.Omega.{arith}
 use lib.ListN.{length, get_or, length-append, get_or-append}
 use lib.Seq.{get_or_at}
 use Rattle.rule.specs.Tree.{Exp, value, ident, element, binary, negate, Com, skip, assign, assign_at, sequence, choose, while}
-use Rattle.rule.specs.Kind.{Kind, aValue, anIdent, anElement, a_binary, aNot, aSkip, anAssign, anAssignAt, aSequence, anIf, aWhile, kind_of, scalar, variableName, arrayName, expression, command, words_of, is_expression, is_command}
+use Rattle.rule.specs.Kind.{Kind, a_value, an_ident, an_element, a_binary, a_not, a_skip, an_assign, an_assign_at, a_sequence, an_if, a_while, kind_of, scalar, variable_name, array_name, expression, command, words_of, is_expression, is_command}
 use Rattle.rule.specs.Table.{word, kind_at, built, entry, exp_of, com_of, exp_row, com_row, exp_at, com_at}
 use Rattle.compiler.specs.Inside.{op_of, Binary, Rows, ExpRow, ComRow}
 use Rattle.rule.proofs.Clean.{InOrder, RowInOrder}
@@ -73,26 +73,26 @@ module _ (ds ns : List ℕ) (all : Rows ds ns) (i : ℕ) (row : ExpRow ns i) (k 
   kinds_sort = ap (λ (n : ℕ). is_expression (kind_of n)) is ∙ row.sort
 
   pub value_read : k ≡ 1 → exp_at ns i ≡ value (word ns i 1)
-  value_read e = reads aValue (ap kind_of e)
+  value_read e = reads a_value (ap kind_of e)
 
   pub ident_read : k ≡ 2 → exp_at ns i ≡ ident (word ns i 1)
-  ident_read e = reads anIdent (ap kind_of e)
+  ident_read e = reads an_ident (ap kind_of e)
 
   pub ident_known : k ≡ 2 → InOrder ds ns i scalar (word ns i 1)
-  ident_known e = (fits ds ns all i row.there anIdent (kind anIdent (ap kind_of e))).0
+  ident_known e = (fits ds ns all i row.there an_ident (kind an_ident (ap kind_of e))).0
 
   module _ (e : k ≡ 3) where
-    pub array_known : InOrder ds ns i arrayName (word ns i 1)
-    array_known = (fits ds ns all i row.there anElement (kind anElement (ap kind_of e))).0
+    pub array_known : InOrder ds ns i array_name (word ns i 1)
+    array_known = (fits ds ns all i row.there an_element (kind an_element (ap kind_of e))).0
 
     pub index : SubExp ns i 2
-    index = sub_exp ds ns all i row.there 2 (fits ds ns all i row.there anElement (kind anElement (ap kind_of e))).1
+    index = sub_exp ds ns all i row.there 2 (fits ds ns all i row.there an_element (kind an_element (ap kind_of e))).1
 
     pub element_read : exp_at ns i ≡ element (word ns i 1) (exp_at ns (word ns i 2))
-    element_read = reads anElement (ap kind_of e) ∙ ap (element (word ns i 1)) (under (word ns i 2) index.below)
+    element_read = reads an_element (ap kind_of e) ∙ ap (element (word ns i 1)) (under (word ns i 2) index.below)
 
   not_operand : k ≡ 11 → SubExp ns i 1
-  not_operand e = sub_exp ds ns all i row.there 1 (fits ds ns all i row.there aNot (kind aNot (ap kind_of e))).0
+  not_operand e = sub_exp ds ns all i row.there 1 (fits ds ns all i row.there a_not (kind a_not (ap kind_of e))).0
 
   module _ (n1 : k ≡ 1 → ⊥) (n2 : k ≡ 2 → ⊥) (n3 : k ≡ 3 → ⊥) where
     pub binary_kind : (k ≡ 11 → ⊥) → Binary k
@@ -110,7 +110,7 @@ module _ (ds ns : List ℕ) (all : Rows ds ns) (i : ℕ) (row : ExpRow ns i) (k 
         go (no f) = sub_exp ds ns all i row.there 1 (binary_fits f).0
 
     pub not_read : k ≡ 11 → exp_at ns i ≡ negate (exp_at ns (word ns i 1))
-    not_read e = reads aNot (ap kind_of e) ∙ ap negate (under (word ns i 1) left.below)
+    not_read e = reads a_not (ap kind_of e) ∙ ap negate (under (word ns i 1) left.below)
 
     module _ (n11 : k ≡ 11 → ⊥) where
       pub right : SubExp ns i 2
@@ -153,69 +153,69 @@ module _ (ds ns : List ℕ) (all : Rows ds ns) (i : ℕ) (row : ComRow ns i) (k 
   com_child j h = sub_com ds ns all i row.there j h
 
   pub skip_read : k ≡ 16 → com_at ns i ≡ skip
-  skip_read e = reads_com aSkip (ap kind_of e)
+  skip_read e = reads_com a_skip (ap kind_of e)
 
   module _ (e : k ≡ 17) where
     pub assign_read : com_at ns i ≡ assign (word ns i 1) (exp_at ns (word ns i 2))
-    assign_read = reads_com anAssign (ap kind_of e)
+    assign_read = reads_com an_assign (ap kind_of e)
 
-    pub assign_name : InOrder ds ns i variableName (word ns i 1)
-    assign_name = (fits_com anAssign (ap kind_of e)).0
+    pub assign_name : InOrder ds ns i variable_name (word ns i 1)
+    assign_name = (fits_com an_assign (ap kind_of e)).0
 
     pub assign_value : SubExp ns i 2
-    assign_value = exp_child 2 (fits_com anAssign (ap kind_of e)).1
+    assign_value = exp_child 2 (fits_com an_assign (ap kind_of e)).1
 
   module _ (e : k ≡ 18) where
     pub assign_at_read : com_at ns i ≡ assign_at (word ns i 1) (exp_at ns (word ns i 2)) (exp_at ns (word ns i 3))
-    assign_at_read = reads_com anAssignAt (ap kind_of e)
+    assign_at_read = reads_com an_assign_at (ap kind_of e)
 
-    pub assign_at_name : InOrder ds ns i arrayName (word ns i 1)
-    assign_at_name = (fits_com anAssignAt (ap kind_of e)).0
+    pub assign_at_name : InOrder ds ns i array_name (word ns i 1)
+    assign_at_name = (fits_com an_assign_at (ap kind_of e)).0
 
     pub assign_at_index : SubExp ns i 2
-    assign_at_index = exp_child 2 (fits_com anAssignAt (ap kind_of e)).1
+    assign_at_index = exp_child 2 (fits_com an_assign_at (ap kind_of e)).1
 
     pub assign_at_value : SubExp ns i 3
-    assign_at_value = exp_child 3 (fits_com anAssignAt (ap kind_of e)).2
+    assign_at_value = exp_child 3 (fits_com an_assign_at (ap kind_of e)).2
 
   module _ (e : k ≡ 19) where
     pub sequence_first : SubCom ns i 1
-    sequence_first = com_child 1 (fits_com aSequence (ap kind_of e)).0
+    sequence_first = com_child 1 (fits_com a_sequence (ap kind_of e)).0
 
     pub sequence_second : SubCom ns i 2
-    sequence_second = com_child 2 (fits_com aSequence (ap kind_of e)).1
+    sequence_second = com_child 2 (fits_com a_sequence (ap kind_of e)).1
 
     pub sequence_read : com_at ns i ≡ sequence (com_at ns (word ns i 1)) (com_at ns (word ns i 2))
     sequence_read =
-        reads_com aSequence (ap kind_of e)
+        reads_com a_sequence (ap kind_of e)
         ∙ ap₂ sequence (under_com (word ns i 1) sequence_first.below) (under_com (word ns i 2) sequence_second.below)
 
   module _ (n6 : k ≡ 16 → ⊥) (n7 : k ≡ 17 → ⊥) (n8 : k ≡ 18 → ⊥) (n9 : k ≡ 19 → ⊥) where
     sort_com : is_command (kind_of k) ≡ true
     sort_com = ap (λ (n : ℕ). is_command (kind_of n)) is ∙ row.sort
 
-    way : (kind_of k ≡ anIf) ⊎ (kind_of k ≡ aWhile)
+    way : (kind_of k ≡ an_if) ⊎ (kind_of k ≡ a_while)
     way = is_if_or_while k sort_com n6 n7 n8 n9
 
     pub test : SubExp ns i 1
-    test = ⊎_elim (λ e. exp_child 1 (fits_com anIf e).0) (λ e. exp_child 1 (fits_com aWhile e).0) way
+    test = ⊎_elim (λ e. exp_child 1 (fits_com an_if e).0) (λ e. exp_child 1 (fits_com a_while e).0) way
 
     pub body : SubCom ns i 2
-    body = ⊎_elim (λ e. com_child 2 (fits_com anIf e).1) (λ e. com_child 2 (fits_com aWhile e).1) way
+    body = ⊎_elim (λ e. com_child 2 (fits_com an_if e).1) (λ e. com_child 2 (fits_com a_while e).1) way
 
     pub while_read : k ≡ 21 → com_at ns i ≡ while (exp_at ns (word ns i 1)) (com_at ns (word ns i 2))
-    while_read e = reads_com aWhile (ap kind_of e) ∙ ap (while (exp_at ns (word ns i 1))) (under_com (word ns i 2) body.below)
+    while_read e = reads_com a_while (ap kind_of e) ∙ ap (while (exp_at ns (word ns i 1))) (under_com (word ns i 2) body.below)
 
     module _ (n1 : k ≡ 21 → ⊥) where
-      is_if : kind_of k ≡ anIf
+      is_if : kind_of k ≡ an_if
       is_if = if_by_number k sort_com n1 way
 
       pub other : SubCom ns i 3
-      other = com_child 3 (fits_com anIf is_if).2
+      other = com_child 3 (fits_com an_if is_if).2
 
       pub choose_read : com_at ns i ≡ choose (exp_at ns (word ns i 1)) (com_at ns (word ns i 2)) (com_at ns (word ns i 3))
       choose_read =
-          reads_com anIf is_if
+          reads_com an_if is_if
           ∙ ap₂ (choose (exp_at ns (word ns i 1))) (under_com (word ns i 2) body.below) (under_com (word ns i 3) other.below)
 
     -- the two readings

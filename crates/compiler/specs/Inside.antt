@@ -13,16 +13,16 @@ use Rattle.compiler.specs.Compile.{need_exp, size_exp, need_com, size_com}
 -- the operator of a kind
 abbrev pub op_of : Kind → Op
 op_of K.unknown = plus
-op_of K.aValue = plus
-op_of K.anIdent = plus
-op_of K.anElement = plus
-op_of K.aNot = plus
-op_of K.aSkip = plus
-op_of K.anAssign = plus
-op_of K.anAssignAt = plus
-op_of K.aSequence = plus
-op_of K.anIf = plus
-op_of K.aWhile = plus
+op_of K.a_value = plus
+op_of K.an_ident = plus
+op_of K.an_element = plus
+op_of K.a_not = plus
+op_of K.a_skip = plus
+op_of K.an_assign = plus
+op_of K.an_assign_at = plus
+op_of K.a_sequence = plus
+op_of K.an_if = plus
+op_of K.a_while = plus
 op_of (K.a_binary o) = o
 
 -- k is the number of a binary

@@ -8,7 +8,7 @@ use lib.Dec.{eqb}
 use lib.ListN.{get_or}
 use Rattle.word.specs.Word.{Word, Words}
 use Rattle.rule.specs.Tree.{Exp, value, Com, skip, constant, variable, array}
-use Rattle.rule.specs.Kind.{Kind, unknown, aValue, anIdent, anElement, a_binary, aNot, aSkip, anAssign, anAssignAt, aSequence, anIf, aWhile}
+use Rattle.rule.specs.Kind.{Kind, unknown, a_value, an_ident, an_element, a_binary, a_not, a_skip, an_assign, an_assign_at, a_sequence, an_if, a_while}
 use Rattle.rule.specs.Table.{sort, given, first_cell, binding_of, node_rows, word, kind_at, built, entry, exp_of, com_of, exp_row, com_row, exp_at, com_at, program}
 use Rattle.correctness.proofs.Fits.{Fit, WordsExp, WordsCom}
 
@@ -47,31 +47,31 @@ module _ {A : Type 0} (P : A → Type 0) (d : A) (step : ℕ → (ℕ → A) →
 
 exp_of_words : (E : ℕ → Exp) → ((j : ℕ) → WordsExp (E j)) → (k : Kind) (a b : ℕ) → Word a → WordsExp (exp_of E k a b)
 exp_of_words E h unknown a b w = omega arith
-exp_of_words E h aValue a b w = w
-exp_of_words E h anIdent a b w = tt
-exp_of_words E h anElement a b w = h b
+exp_of_words E h a_value a b w = w
+exp_of_words E h an_ident a b w = tt
+exp_of_words E h an_element a b w = h b
 exp_of_words E h (a_binary op) a b w = (h a, h b)
-exp_of_words E h aNot a b w = h a
-exp_of_words E h aSkip a b w = omega arith
-exp_of_words E h anAssign a b w = omega arith
-exp_of_words E h anAssignAt a b w = omega arith
-exp_of_words E h aSequence a b w = omega arith
-exp_of_words E h anIf a b w = omega arith
-exp_of_words E h aWhile a b w = omega arith
+exp_of_words E h a_not a b w = h a
+exp_of_words E h a_skip a b w = omega arith
+exp_of_words E h an_assign a b w = omega arith
+exp_of_words E h an_assign_at a b w = omega arith
+exp_of_words E h a_sequence a b w = omega arith
+exp_of_words E h an_if a b w = omega arith
+exp_of_words E h a_while a b w = omega arith
 
 com_of_words : (E : ℕ → Exp) (C : ℕ → Com) → ((j : ℕ) → WordsExp (E j)) → ((j : ℕ) → WordsCom (C j)) → (k : Kind) (a b c : ℕ) → WordsCom (com_of E C k a b c)
 com_of_words E C h g unknown a b c = tt
-com_of_words E C h g aValue a b c = tt
-com_of_words E C h g anIdent a b c = tt
-com_of_words E C h g anElement a b c = tt
+com_of_words E C h g a_value a b c = tt
+com_of_words E C h g an_ident a b c = tt
+com_of_words E C h g an_element a b c = tt
 com_of_words E C h g (a_binary op) a b c = tt
-com_of_words E C h g aNot a b c = tt
-com_of_words E C h g aSkip a b c = tt
-com_of_words E C h g anAssign a b c = h b
-com_of_words E C h g anAssignAt a b c = (h b, h c)
-com_of_words E C h g aSequence a b c = (g a, g b)
-com_of_words E C h g anIf a b c = (h a, g b, g c)
-com_of_words E C h g aWhile a b c = (h a, g b)
+com_of_words E C h g a_not a b c = tt
+com_of_words E C h g a_skip a b c = tt
+com_of_words E C h g an_assign a b c = h b
+com_of_words E C h g an_assign_at a b c = (h b, h c)
+com_of_words E C h g a_sequence a b c = (g a, g b)
+com_of_words E C h g an_if a b c = (h a, g b, g c)
+com_of_words E C h g a_while a b c = (h a, g b)
 
 module _ (ns : List ℕ) (w : Words ns) where
   exp_at_words : (i : ℕ) → WordsExp (exp_at ns i)

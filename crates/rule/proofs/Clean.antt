@@ -8,7 +8,7 @@ use native.Mathlib.Omega.{arith}
 use lib.Dec.{eqb, ltb, leb}
 use borrow.Author.Tests.{ltb-true, ltb-false, leb-true, eqb-true, eq-eqb, not-false}
 use Rattle.refusal.specs.declared.Verdict.TheVariants.{Passes}
-use Rattle.rule.specs.Kind.{Class, Words, none, unused, number, scalar, variableName, arrayName, expression, command, words_of, first, second, third, is_expression, is_command}
+use Rattle.rule.specs.Kind.{Class, Words, none, unused, number, scalar, variable_name, array_name, expression, command, words_of, first, second, third, is_expression, is_command}
 use Rattle.rule.specs.Table.{declaration_rows, sort, node_rows, word, kind_at}
 use Rattle.rule.specs.Check.{among, child_no, name_no, word_no, last_no, row_no, refused, rows, is_child, uses, misused, used_once}
 use Rattle.rule.proofs.Verdicts.{both_hold}
@@ -32,8 +32,8 @@ InOrder ds ns i none w = ⊥
 InOrder ds ns i unused w = w ≡ 0
 InOrder ds ns i number w = Unit {0}
 InOrder ds ns i scalar w = (w < declaration_rows ds) × (1 ≤ sort ds w) × (sort ds w ≤ 2)
-InOrder ds ns i variableName w = (w < declaration_rows ds) × (sort ds w ≡ 2)
-InOrder ds ns i arrayName w = (w < declaration_rows ds) × (sort ds w ≡ 3)
+InOrder ds ns i variable_name w = (w < declaration_rows ds) × (sort ds w ≡ 2)
+InOrder ds ns i array_name w = (w < declaration_rows ds) × (sort ds w ≡ 3)
 InOrder ds ns i expression w = (w < i) × (is_expression (kind_at ns w) ≡ true)
 InOrder ds ns i command w = (w < i) × (is_command (kind_at ns w) ≡ true)
 
@@ -65,8 +65,8 @@ word_in_order ds ns i none w h = omega arith
 word_in_order ds ns i unused w h = zero_in_order w h
 word_in_order ds ns i number w h = tt
 word_in_order ds ns i scalar w h = name_in_order ds 1 2 w h
-word_in_order ds ns i variableName w h = let n = name_in_order ds 2 2 w h in (n.0, omega arith)
-word_in_order ds ns i arrayName w h = let n = name_in_order ds 3 3 w h in (n.0, omega arith)
+word_in_order ds ns i variable_name w h = let n = name_in_order ds 2 2 w h in (n.0, omega arith)
+word_in_order ds ns i array_name w h = let n = name_in_order ds 3 3 w h in (n.0, omega arith)
 word_in_order ds ns i expression w h = child_in_order i w (is_expression (kind_at ns w)) h
 word_in_order ds ns i command w h = child_in_order i w (is_command (kind_at ns w)) h
 
@@ -103,8 +103,8 @@ child_below ds ns i none w h e = absurd h
 child_below ds ns i unused w h e = absurd (true≢false (sym e))
 child_below ds ns i number w h e = absurd (true≢false (sym e))
 child_below ds ns i scalar w h e = absurd (true≢false (sym e))
-child_below ds ns i variableName w h e = absurd (true≢false (sym e))
-child_below ds ns i arrayName w h e = absurd (true≢false (sym e))
+child_below ds ns i variable_name w h e = absurd (true≢false (sym e))
+child_below ds ns i array_name w h e = absurd (true≢false (sym e))
 child_below ds ns i expression w h e = h.0
 child_below ds ns i command w h e = h.0
 

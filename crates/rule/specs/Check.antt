@@ -3,7 +3,7 @@ use Rattle.std.specs.Prelude.{Bool, true, false, cond, not, ◌&&◌, List, ℕ,
 use Rattle.refusal.specs.declared.Verdict.{Verdict}
 use Rattle.refusal.specs.declared.Verdict.TheVariants.{Passes, Refuses}
 use Rattle.refusal.specs.Refusal.{◌and_then◌, first_refused}
-use Rattle.rule.specs.Kind.{Class, none, unused, number, scalar, variableName, arrayName, expression, command, Words, words_of, first, second, third, is_expression, is_command}
+use Rattle.rule.specs.Kind.{Class, none, unused, number, scalar, variable_name, array_name, expression, command, Words, words_of, first, second, third, is_expression, is_command}
 use Rattle.rule.specs.Table.{row_limit, declaration_limit, cell_limit, declaration_rows, sort, given, first_cell, node_rows, word, kind_at}
 
 -- 1: "node words not a multiple of 4, no rows, or above 1,024 rows"
@@ -44,8 +44,8 @@ word_no ds ns i none w = 6
 word_no ds ns i unused w = cond (eqb w 0) 10 6
 word_no ds ns i number w = 10
 word_no ds ns i scalar w = name_no ds (among 1 2 (sort ds w)) w
-word_no ds ns i variableName w = name_no ds (among 2 2 (sort ds w)) w
-word_no ds ns i arrayName w = name_no ds (among 3 3 (sort ds w)) w
+word_no ds ns i variable_name w = name_no ds (among 2 2 (sort ds w)) w
+word_no ds ns i array_name w = name_no ds (among 3 3 (sort ds w)) w
 word_no ds ns i expression w = child_no i (is_expression (kind_at ns w)) w
 word_no ds ns i command w = child_no i (is_command (kind_at ns w)) w
 
@@ -70,8 +70,8 @@ is_child none = false
 is_child unused = false
 is_child number = false
 is_child scalar = false
-is_child variableName = false
-is_child arrayName = false
+is_child variable_name = false
+is_child array_name = false
 is_child expression = true
 is_child command = true
 

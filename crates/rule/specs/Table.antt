@@ -3,7 +3,7 @@ use Rattle.std.specs.Prelude.{cond, List, [], ◌∷◌, ◌++◌, ℕ, zero, su
 use Rattle.rule.specs.Tree.{Exp, value, ident, element, binary, negate}
 use Rattle.rule.specs.Tree.{Com, skip, assign, assign_at, sequence, choose, while}
 use Rattle.rule.specs.Tree.{Binding, constant, variable, array}
-use Rattle.rule.specs.Kind.{Kind, unknown, aValue, anIdent, anElement, a_binary, aNot, aSkip, anAssign, anAssignAt, aSequence, anIf, aWhile, kind_of}
+use Rattle.rule.specs.Kind.{Kind, unknown, a_value, an_ident, an_element, a_binary, a_not, a_skip, an_assign, an_assign_at, a_sequence, an_if, a_while, kind_of}
 
 -- "1,024 rows", "at most 256 rows", "cells pass 65,536"
 abbrev pub row_limit : ℕ
@@ -61,31 +61,31 @@ module _ {A : Type 0} (d : A) (step : ℕ → (ℕ → A) → A) where
 -- a row's tree, from the trees E and C of the rows below it. A row of the other sort is read as 0, or as skip: no accepted table has one there
 abbrev pub exp_of : (ℕ → Exp) → Kind → ℕ → ℕ → Exp
 exp_of E unknown a b = value 0
-exp_of E aValue a b = value a
-exp_of E anIdent a b = ident a
-exp_of E anElement a b = element a (E b)
+exp_of E a_value a b = value a
+exp_of E an_ident a b = ident a
+exp_of E an_element a b = element a (E b)
 exp_of E (a_binary op) a b = binary op (E a) (E b)
-exp_of E aNot a b = negate (E a)
-exp_of E aSkip a b = value 0
-exp_of E anAssign a b = value 0
-exp_of E anAssignAt a b = value 0
-exp_of E aSequence a b = value 0
-exp_of E anIf a b = value 0
-exp_of E aWhile a b = value 0
+exp_of E a_not a b = negate (E a)
+exp_of E a_skip a b = value 0
+exp_of E an_assign a b = value 0
+exp_of E an_assign_at a b = value 0
+exp_of E a_sequence a b = value 0
+exp_of E an_if a b = value 0
+exp_of E a_while a b = value 0
 
 abbrev pub com_of : (ℕ → Exp) → (ℕ → Com) → Kind → ℕ → ℕ → ℕ → Com
 com_of E C unknown a b c = skip
-com_of E C aValue a b c = skip
-com_of E C anIdent a b c = skip
-com_of E C anElement a b c = skip
+com_of E C a_value a b c = skip
+com_of E C an_ident a b c = skip
+com_of E C an_element a b c = skip
 com_of E C (a_binary op) a b c = skip
-com_of E C aNot a b c = skip
-com_of E C aSkip a b c = skip
-com_of E C anAssign a b c = assign a (E b)
-com_of E C anAssignAt a b c = assign_at a (E b) (E c)
-com_of E C aSequence a b c = sequence (C a) (C b)
-com_of E C anIf a b c = choose (E a) (C b) (C c)
-com_of E C aWhile a b c = while (E a) (C b)
+com_of E C a_not a b c = skip
+com_of E C a_skip a b c = skip
+com_of E C an_assign a b c = assign a (E b)
+com_of E C an_assign_at a b c = assign_at a (E b) (E c)
+com_of E C a_sequence a b c = sequence (C a) (C b)
+com_of E C an_if a b c = choose (E a) (C b) (C c)
+com_of E C a_while a b c = while (E a) (C b)
 
 abbrev pub exp_row : List ℕ → ℕ → (ℕ → Exp) → Exp
 exp_row ns i E = exp_of E (kind_at ns i) (word ns i 1) (word ns i 2)

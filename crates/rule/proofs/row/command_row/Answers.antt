@@ -3,7 +3,7 @@ use mathlib.Core.Path.{refl, ap, ◌∙◌}
 use Prim.Native.Nat.{◌*◌}
 use lib.ListN.{get_or}
 use native.Mathlib.Omega.{arith}
-use Rattle.rule.specs.Kind.{three, none, unused, variableName, arrayName, expression, command}
+use Rattle.rule.specs.Kind.{three, none, unused, variable_name, array_name, expression, command}
 use Rattle.rule.specs.Table.{word}
 use Rattle.rule.specs.Marks.{mark_child}
 use Rattle.rule.proofs.Sorts.{kind_word, by_words, words_at, least_of, no_kind_high}
@@ -21,14 +21,14 @@ returns-in-17 c =
     let handed = c.args in
     let ns = handed.nodes.now in
     let i = handed.row in
-    let w = by_words handed.declarations.now ns i handed.marks.now (three variableName expression unused) (words_at ns i 17 c.in-17.is) (least_of c.smallest-in-17.ensures c.name.ensures c.expression.ensures.refusal c.unused-in-17.ensures) c.expression.ensures.marks in record { refusal = w.0; marks = w.1 }
+    let w = by_words handed.declarations.now ns i handed.marks.now (three variable_name expression unused) (words_at ns i 17 c.in-17.is) (least_of c.smallest-in-17.ensures c.name.ensures c.expression.ensures.refusal c.unused-in-17.ensures) c.expression.ensures.marks in record { refusal = w.0; marks = w.1 }
 
 pub returns-in-18 : goal.returns-in-18
 returns-in-18 c =
     let handed = c.args in
     let ns = handed.nodes.now in
     let i = handed.row in
-    let w = by_words handed.declarations.now ns i handed.marks.now (three arrayName expression expression) (words_at ns i 18 c.in-18.is) (least_of c.smallest-in-18.ensures c.name-in-18.ensures c.expression-in-18.ensures.refusal c.expression-in-18-2.ensures.refusal) (c.expression-in-18-2.ensures.marks ∙ ap (mark_child i (word ns i 3)) c.expression-in-18.ensures.marks) in record { refusal = w.0; marks = w.1 }
+    let w = by_words handed.declarations.now ns i handed.marks.now (three array_name expression expression) (words_at ns i 18 c.in-18.is) (least_of c.smallest-in-18.ensures c.name-in-18.ensures c.expression-in-18.ensures.refusal c.expression-in-18-2.ensures.refusal) (c.expression-in-18-2.ensures.marks ∙ ap (mark_child i (word ns i 3)) c.expression-in-18.ensures.marks) in record { refusal = w.0; marks = w.1 }
 
 pub returns-in-19 : goal.returns-in-19
 returns-in-19 c =

@@ -3,7 +3,7 @@ use mathlib.Core.Path.{refl, ap, ◌∙◌}
 use Prim.Native.Nat.{◌*◌}
 use lib.ListN.{get_or}
 use native.Mathlib.Omega.{arith}
-use Rattle.rule.specs.Kind.{three, none, unused, number, scalar, arrayName, expression}
+use Rattle.rule.specs.Kind.{three, none, unused, number, scalar, array_name, expression}
 use Rattle.rule.specs.Table.{word}
 use Rattle.rule.specs.Marks.{mark_child}
 use Rattle.rule.proofs.Sorts.{kind_word, by_words, words_at, least_of, binary_kind, no_kind_low, no_kind_between}
@@ -28,7 +28,7 @@ returns-in-3 c =
     let handed = c.args in
     let ns = handed.nodes.now in
     let i = handed.row in
-    let w = by_words handed.declarations.now ns i handed.marks.now (three arrayName expression unused) (words_at ns i 3 c.in-3.is) (least_of c.smallest-in-3.ensures c.name-in-3.ensures c.expression.ensures.refusal c.unused-in-3.ensures) c.expression.ensures.marks in record { refusal = w.0; marks = w.1 }
+    let w = by_words handed.declarations.now ns i handed.marks.now (three array_name expression unused) (words_at ns i 3 c.in-3.is) (least_of c.smallest-in-3.ensures c.name-in-3.ensures c.expression.ensures.refusal c.unused-in-3.ensures) c.expression.ensures.marks in record { refusal = w.0; marks = w.1 }
 
 pub returns-in-11 : goal.returns-in-11
 returns-in-11 c =
