@@ -10,6 +10,8 @@ use compiler::CompileAnswer;
 use listing::ListAnswer;
 use machine::{Ending, RunAnswer, State};
 use show::text;
+use std::io;
+use std::io::Write;
 
 // The host lends $40 to $47, and once only $40 to $45.
 const POOL: u64 = 0xff0000000000;
@@ -69,16 +71,16 @@ fn rule_of(name: u32) -> [u32; 40] {
 }
 
 // The declarations by name, each with its cell.
-fn show_declarations() {
+fn show_declarations(rt: &impl Print) -> io::Result<()> {
     let declarations = declared();
     let layout = lay_out(&declarations);
     let cells = layout.bases;
-    text(b"Declarations, where a variable has a cell of memory:\n");
-    show::declaration(b"local  ", LOCAL, &declarations, &cells);
-    show::declaration(b"hours  ", HOURS, &declarations, &cells);
-    show::declaration(b"minutes", MINUTES, &declarations, &cells);
-    show::declaration(b"cutover", CUTOVER, &declarations, &cells);
-    text(b"\n");
+    text(rt, "Declarations, where a variable has a cell of memory:\n")?;
+    show::declaration(rt, "local  ", LOCAL, &declarations, &cells)?;
+    show::declaration(rt, "hours  ", HOURS, &declarations, &cells)?;
+    show::declaration(rt, "minutes", MINUTES, &declarations, &cells)?;
+    show::declaration(rt, "cutover", CUTOVER, &declarations, &cells)?;
+    text(rt, "\n")
 }
 
 // The cells given out to the declarations.
@@ -87,28 +89,34 @@ fn lay_out(declarations: &[u32; 8]) -> rule::Layout {
 }
 
 // A compilation's answer. The number of instructions is handed back, 0 of a refused rule.
-fn answered(answer: CompileAnswer, pool: u64) -> u32 {
+fn answered(rt: &impl Print, answer: CompileAnswer, pool: u64) -> io::Result<u32> {
     match answer {
         CompileAnswer::Accepted(instructions, cells, need) => {
-            show::many(b"accepted with ", instructions, b" instruction");
-            show::many(b", ", cells, b" cell");
-            show::many(b" and ", need, b" register");
-            text(b" needed\n");
-            instructions
+            show::many(rt, "accepted with ", instructions, " instruction")?;
+            show::many(rt, ", ", cells, " cell")?;
+            show::many(rt, " and ", need, " register")?;
+            text(rt, " needed\n")?;
+            Ok(instructions)
         }
         CompileAnswer::Refused(no, value) => {
-            reason::refusal(no, value, pool);
-            0
+            reason::refusal(rt, no, value, pool)?;
+            Ok(0)
         }
     }
 }
 
 // A rule compiled with a pool.
-fn compiled(declarations: &[u32; 8], nodes: &[u32; 40], pool: u64, code: &mut [u32; 64]) -> u32 {
-    text(b"Pool");
-    show::pool(pool);
-    text(b": ");
-    answered(compiler::compile(declarations, nodes, pool, code), pool)
+fn compiled(
+    rt: &impl Print,
+    declarations: &[u32; 8],
+    nodes: &[u32; 40],
+    pool: u64,
+    code: &mut [u32; 64],
+) -> io::Result<u32> {
+    text(rt, "Pool")?;
+    show::pool(rt, pool)?;
+    text(rt, ": ")?;
+    answered(rt, compiler::compile(declarations, nodes, pool, code), pool)
 }
 
 // So many instructions at the front.
@@ -135,12 +143,12 @@ fn written(bytes: &[u8], count: u32) -> &[u8] {
 }
 
 // The listing of a code that fits the buffer.
-fn show_listing(code: &[u32]) {
+fn show_listing(rt: &impl Print, code: &[u32]) -> io::Result<()> {
     let mut lines = [0u8; LINES];
     let answer = listing::list(code, &mut lines);
     match answer {
-        ListAnswer::Listed(count) => text(written(&lines, count)),
-        ListAnswer::Refused(no, value) => reason::refusal(no, value, 0),
+        ListAnswer::Listed(count) => io::writer(rt).write_all(written(&lines, count)),
+        ListAnswer::Refused(no, value) => reason::refusal(rt, no, value, 0),
     }
 }
 
@@ -179,46 +187,49 @@ fn unchanged(registers: &[u32; 64], pool: u64) -> u32 {
 }
 
 // The registers after a run, where each held its number before.
-fn show_registers(registers: &[u32; 64]) {
-    text(b"Registers after the run, where each held its own number before it:\n");
-    show::registers(registers);
+fn show_registers(rt: &impl Print, registers: &[u32; 64]) -> io::Result<()> {
+    text(
+        rt,
+        "Registers after the run, where each held its own number before it:\n",
+    )?;
+    show::registers(rt, registers)?;
     let kept = unchanged(registers, POOL);
-    show::named(b"    unchanged outside the pool: ", kept);
-    show::named(b" of ", u64::count_ones(u64::MAX - POOL));
-    text(b"\n");
+    show::named(rt, "    unchanged outside the pool: ", kept)?;
+    show::named(rt, " of ", u64::count_ones(u64::MAX - POOL))?;
+    text(rt, "\n")
 }
 
 // The memory after a run, and what it means.
-fn show_result(memory: &[u32; 2]) {
-    text(b"    memory after:");
-    show::memory(memory);
-    text(b"    local time ");
-    show::clock(memory[0]);
-    text(b", cut-over ");
-    show::clock(memory[1]);
-    text(b"\n");
+fn show_result(rt: &impl Print, memory: &[u32; 2]) -> io::Result<()> {
+    text(rt, "    memory after:")?;
+    show::memory(rt, memory)?;
+    text(rt, "    local time ")?;
+    show::clock(rt, memory[0])?;
+    text(rt, ", cut-over ")?;
+    show::clock(rt, memory[1])?;
+    text(rt, "\n")
 }
 
 // One run under a budget, with the memory before and after it.
-fn whole(code: &[u32]) {
+fn whole(rt: &impl Print, code: &[u32]) -> io::Result<()> {
     let mut memory = [43200u32, 0];
     let start = State {
         place: 0,
         registers: numbered(),
     };
-    text(b"\nRun under a budget of 100 steps:\n    memory before:");
-    show::memory(&memory);
+    text(rt, "\nRun under a budget of 100 steps:\n    memory before:")?;
+    show::memory(rt, &memory)?;
     let ran = machine::run(code, &mut memory, start, 100);
     let answer = ran.answer;
     let state = ran.state;
-    reason::ran(answer, state.place);
-    show_result(&memory);
+    reason::ran(rt, answer, state.place)?;
+    show_result(rt, &memory)?;
     let registers = state.registers;
-    show_registers(&registers);
+    show_registers(rt, &registers)
 }
 
 // Whether a run's budget ran out.
-fn unfinished(answer: RunAnswer) -> bool {
+fn unfinished(answer: &RunAnswer) -> bool {
     match answer {
         RunAnswer::Ended(ending, steps) => match ending {
             Ending::Unfinished => true,
@@ -231,53 +242,76 @@ fn unfinished(answer: RunAnswer) -> bool {
 }
 
 // A slice of five steps. Whether there is more to do is handed back.
-fn slice(code: &[u32], memory: &mut [u32; 2], place: &mut u32, registers: &mut [u32; 64]) -> bool {
+fn slice(
+    rt: &impl Print,
+    code: &[u32],
+    memory: &mut [u32; 2],
+    place: &mut u32,
+    registers: &mut [u32; 64],
+) -> io::Result<bool> {
     let answer = machine::run_in_place(code, memory, place, registers, 5);
-    reason::ran(answer, *place);
-    unfinished(answer)
+    let more = unfinished(&answer);
+    reason::ran(rt, answer, *place)?;
+    Ok(more)
 }
 
 // The same run in slices, at most ten of them.
-fn slices(code: &[u32]) {
+fn slices(rt: &impl Print, code: &[u32]) -> io::Result<()> {
     let mut memory = [43200u32, 0];
     let mut registers = numbered();
     let mut place: u32 = 0;
-    text(b"\nThe same run in slices of 5 steps, each from the state that the last one left:\n");
+    text(
+        rt,
+        "\nThe same run in slices of 5 steps, each from the state that the last one left:\n",
+    )?;
     let mut left: u32 = 10;
     while 0 < left {
         left -= 1;
-        if !slice(code, &mut memory, &mut place, &mut registers) {
+        if !slice(rt, code, &mut memory, &mut place, &mut registers)? {
             left = 0;
         }
     }
-    text(b"    memory after:");
-    show::memory(&memory);
+    text(rt, "    memory after:")?;
+    show::memory(rt, &memory)
 }
 
 // The rule, its declarations, its code, and the runs.
-fn accepted() {
+fn accepted(rt: &impl Print) -> io::Result<()> {
     let declarations = declared();
     let nodes = rule_of(CUTOVER);
     let mut buffer = [0u32; 64];
-    text(b"cutover := local - (hours * 3600 + minutes * 60)\n\n");
-    show_declarations();
-    let n = compiled(&declarations, &nodes, POOL, &mut buffer);
-    show_listing(code_of(&buffer, n));
-    whole(code_of(&buffer, n));
-    slices(code_of(&buffer, n));
+    text(rt, "cutover := local - (hours * 3600 + minutes * 60)\n\n")?;
+    show_declarations(rt)?;
+    let n = compiled(rt, &declarations, &nodes, POOL, &mut buffer)?;
+    show_listing(rt, code_of(&buffer, n))?;
+    whole(rt, code_of(&buffer, n))?;
+    slices(rt, code_of(&buffer, n))
 }
 
 // The rule with too few registers, and a rule that assigns a constant.
-fn refused() {
+fn refused(rt: &impl Print) -> io::Result<()> {
     let declarations = declared();
     let mut buffer = [0u32; 64];
-    text(b"\nRefused, the same rule with two registers fewer:\n    ");
-    compiled(&declarations, &rule_of(CUTOVER), SMALL_POOL, &mut buffer);
-    text(b"Refused, hours := local - (hours * 3600 + minutes * 60):\n    ");
-    compiled(&declarations, &rule_of(HOURS), POOL, &mut buffer);
+    text(
+        rt,
+        "\nRefused, the same rule with two registers fewer:\n    ",
+    )?;
+    compiled(
+        rt,
+        &declarations,
+        &rule_of(CUTOVER),
+        SMALL_POOL,
+        &mut buffer,
+    )?;
+    text(
+        rt,
+        "Refused, hours := local - (hours * 3600 + minutes * 60):\n    ",
+    )?;
+    compiled(rt, &declarations, &rule_of(HOURS), POOL, &mut buffer)?;
+    Ok(())
 }
 
-fn main() {
-    accepted();
-    refused();
+fn main(rt: HostRuntime) -> io::Result<()> {
+    accepted(&rt)?;
+    refused(&rt)
 }

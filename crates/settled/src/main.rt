@@ -5,6 +5,7 @@ mod show;
 mod table;
 
 use machine::State;
+use std::io;
 
 // Pools by their registers: $1; $1 and $2; and so on, to all of them.
 const POOL_1: u64 = 0b10;
@@ -19,20 +20,27 @@ const POOL_1_63: u64 = 0xfffffffffffffffe;
 
 // A rule is compiled and its line printed. The number of instructions is handed back.
 fn compiled_over(
-    name: &[u8],
+    rt: &impl Print,
+    name: &str,
     declarations: &[u32],
     nodes: &[u32],
     pool: u64,
     code: &mut [u32],
-) -> u32 {
-    show::text(name);
-    show::compiled(compiler::compile(declarations, nodes, pool, code))
+) -> io::Result<u32> {
+    show::text(rt, name)?;
+    show::compiled(rt, compiler::compile(declarations, nodes, pool, code))
 }
 
 // The same over one variable, x.
-fn compiled(name: &[u8], nodes: &[u32], pool: u64, code: &mut [u32]) -> u32 {
+fn compiled(
+    rt: &impl Print,
+    name: &str,
+    nodes: &[u32],
+    pool: u64,
+    code: &mut [u32],
+) -> io::Result<u32> {
     let declarations = [rule::VARIABLE, 0];
-    compiled_over(name, &declarations, nodes, pool, code)
+    compiled_over(rt, name, &declarations, nodes, pool, code)
 }
 
 // Place 0, and registers of 0 but for $1 and $2.
@@ -47,80 +55,88 @@ fn start_with(one: u32, two: u32) -> State {
 }
 
 // A line's front, before a run, and its end.
-fn before_run(memory: &[u32], budget: u32) {
-    show::text(b"  ");
-    show::x(memory);
-    show::named(b", budget ", budget);
-    show::text(b": ");
+fn before_run(rt: &impl Print, memory: &[u32], budget: u32) -> io::Result<()> {
+    show::text(rt, "  ")?;
+    show::x(rt, memory)?;
+    show::named(rt, ", budget ", budget)?;
+    show::text(rt, ": ")
 }
 
-fn after_run(memory: &[u32]) {
+fn after_run(rt: &impl Print, memory: &[u32]) -> io::Result<()> {
     if 0 < memory.len() {
-        show::text(b", ");
-        show::x(memory);
+        show::text(rt, ", ")?;
+        show::x(rt, memory)?;
     }
-    show::text(b"\n");
+    show::text(rt, "\n")
 }
 
 // A run from place 0 with registers of 0, and its line.
-fn run(code: &[u32], memory: &mut [u32], budget: u32) {
-    before_run(memory, budget);
+fn run(rt: &impl Print, code: &[u32], memory: &mut [u32], budget: u32) -> io::Result<()> {
+    before_run(rt, memory, budget)?;
     let ran = machine::run(code, memory, start_with(0, 0), budget);
     let answer = ran.answer;
-    show::ran(answer);
-    after_run(memory);
+    show::ran(rt, answer)?;
+    after_run(rt, memory)
 }
 
 // The same over one cell that holds x.
-fn run_with(code: &[u32], x: u32, budget: u32) {
+fn run_with(rt: &impl Print, code: &[u32], x: u32, budget: u32) -> io::Result<()> {
     let mut memory = [x];
-    run(code, &mut memory, budget);
+    run(rt, code, &mut memory, budget)
 }
 
 // One step from a state, and what came of it.
-fn step(before: &[u8], code: &[u32], memory: &mut [u32], from: State) -> State {
-    show::text(before);
+fn step(
+    rt: &impl Print,
+    before: &str,
+    code: &[u32],
+    memory: &mut [u32],
+    from: State,
+) -> io::Result<State> {
+    show::text(rt, before)?;
     let stepped = machine::step(code, memory, from);
     let answer = stepped.answer;
     let state = stepped.state;
-    show::stepped(answer, state.place);
-    state
+    show::stepped(rt, answer, state.place)?;
+    Ok(state)
 }
 
 // Four single steps, in a line.
-fn four_steps(code: &[u32]) {
+fn four_steps(rt: &impl Print, code: &[u32]) -> io::Result<()> {
     let mut memory = [0u32];
     let first = step(
-        b"  x = 0, single steps: ",
+        rt,
+        "  x = 0, single steps: ",
         code,
         &mut memory,
         start_with(0, 0),
-    );
-    let second = step(b", ", code, &mut memory, first);
-    let third = step(b", ", code, &mut memory, second);
-    step(b", ", code, &mut memory, third);
-    after_run(&memory);
+    )?;
+    let second = step(rt, ", ", code, &mut memory, first)?;
+    let third = step(rt, ", ", code, &mut memory, second)?;
+    step(rt, ", ", code, &mut memory, third)?;
+    after_run(rt, &memory)
 }
 
 // x := 2.
-fn assign() {
+fn assign(rt: &impl Print) -> io::Result<()> {
     let nodes = [rule::VALUE, 2, 0, 0, rule::ASSIGN, 0, 0, 0];
     let mut buffer = [0u32; 64];
-    let n = compiled(b"x := 2, pool 1-2", &nodes, POOL_1_2, &mut buffer);
+    let n = compiled(rt, "x := 2, pool 1-2", &nodes, POOL_1_2, &mut buffer)?;
     let code = table::front(&buffer, n);
-    show::code(code);
-    run_with(code, 0, 2);
-    run_with(code, 0, 3);
-    run_with(code, 0, 4);
-    four_steps(code);
+    show::code(rt, code)?;
+    run_with(rt, code, 0, 2)?;
+    run_with(rt, code, 0, 3)?;
+    run_with(rt, code, 0, 4)?;
+    four_steps(rt, code)?;
     let mut nothing: [u32; 0] = [];
-    run(code, &mut nothing, 3);
-    run(code, &mut nothing, 2);
-    compiled(b"x := 2, pool 1", &nodes, POOL_1, &mut buffer);
+    run(rt, code, &mut nothing, 3)?;
+    run(rt, code, &mut nothing, 2)?;
+    compiled(rt, "x := 2, pool 1", &nodes, POOL_1, &mut buffer)?;
+    Ok(())
 }
 
 // x := 9 - (5 - 2).
-fn nested() {
+fn nested(rt: &impl Print) -> io::Result<()> {
     let mut nodes = [0u32; 4100];
     table::put(&mut nodes, 0, rule::VALUE, 9, 0, 0);
     table::put(&mut nodes, 1, rule::VALUE, 5, 0, 0);
@@ -130,50 +146,63 @@ fn nested() {
     table::put(&mut nodes, 5, rule::ASSIGN, 0, 4, 0);
     let rows = table::rows(&nodes, 6);
     let mut buffer = [0u32; 64];
-    let n = compiled(b"x := 9 - (5 - 2), pool 1-5", rows, POOL_1_5, &mut buffer);
+    let n = compiled(
+        rt,
+        "x := 9 - (5 - 2), pool 1-5",
+        rows,
+        POOL_1_5,
+        &mut buffer,
+    )?;
     let code = table::front(&buffer, n);
-    show::code(code);
-    run_with(code, 0, 8);
-    compiled(b"x := 9 - (5 - 2), pool 1-4", rows, POOL_1_4, &mut buffer);
+    show::code(rt, code)?;
+    run_with(rt, code, 0, 8)?;
+    compiled(
+        rt,
+        "x := 9 - (5 - 2), pool 1-4",
+        rows,
+        POOL_1_4,
+        &mut buffer,
+    )?;
+    Ok(())
 }
 
 // x := not 0.
-fn not() {
+fn not(rt: &impl Print) -> io::Result<()> {
     let mut nodes = [0u32; 4100];
     table::put(&mut nodes, 0, rule::VALUE, 0, 0, 0);
     table::put(&mut nodes, 1, rule::NOT, 0, 0, 0);
     table::put(&mut nodes, 2, rule::ASSIGN, 0, 1, 0);
     let rows = table::rows(&nodes, 3);
     let mut buffer = [0u32; 64];
-    let n = compiled(b"x := not 0, pool 1-2", rows, POOL_1_2, &mut buffer);
+    let n = compiled(rt, "x := not 0, pool 1-2", rows, POOL_1_2, &mut buffer)?;
     let code = table::front(&buffer, n);
-    run_with(code, 0, 5);
-    run_with(code, 0, 6);
+    run_with(rt, code, 0, 5)?;
+    run_with(rt, code, 0, 6)
 }
 
 // skip, with no register at all.
-fn skip() {
+fn skip(rt: &impl Print) -> io::Result<()> {
     let nodes = [rule::SKIP, 0, 0, 0];
     let mut buffer = [0u32; 64];
-    let n = compiled(b"skip, pool empty", &nodes, 0, &mut buffer);
+    let n = compiled(rt, "skip, pool empty", &nodes, 0, &mut buffer)?;
     let code = table::front(&buffer, n);
-    show::code(code);
-    run_with(code, 0, 2);
+    show::code(rt, code)?;
+    run_with(rt, code, 0, 2)
 }
 
 // while x do skip.
-fn repeat() {
+fn repeat(rt: &impl Print) -> io::Result<()> {
     let mut nodes = [0u32; 4100];
     table::put(&mut nodes, 0, rule::IDENTIFIER, 0, 0, 0);
     table::put(&mut nodes, 1, rule::SKIP, 0, 0, 0);
     table::put(&mut nodes, 2, rule::WHILE, 0, 1, 0);
     let rows = table::rows(&nodes, 3);
     let mut buffer = [0u32; 64];
-    let n = compiled(b"while x do skip, pool 1-2", rows, POOL_1_2, &mut buffer);
+    let n = compiled(rt, "while x do skip, pool 1-2", rows, POOL_1_2, &mut buffer)?;
     let code = table::front(&buffer, n);
-    run_with(code, 0, 4);
-    run_with(code, 1, 5);
-    run_with(code, 1, 10);
+    run_with(rt, code, 0, 4)?;
+    run_with(rt, code, 1, 5)?;
+    run_with(rt, code, 1, 10)
 }
 
 // Code that puts two words into $1 and $2 and the operation's result into $3.
@@ -205,151 +234,177 @@ fn run_code(code: &[u32; 16]) -> machine::Ran {
 }
 
 // An operation on two words, and its result.
-fn operate(operation: u32, b: u32, sign: &[u8], c: u32) {
+fn operate(rt: &impl Print, operation: u32, b: u32, sign: &str, c: u32) -> io::Result<()> {
     let ran = run_code(&code_of(operation, b, c));
     let answer = ran.answer;
     let state = ran.state;
-    show::signed(b);
-    show::named_word(sign, c);
-    show::named_word(b" = ", state.registers[3]);
-    show::text(b": ");
-    show::ran(answer);
-    show::text(b"\n");
+    show::signed(rt, b)?;
+    show::named_word(rt, sign, c)?;
+    show::named_word(rt, " = ", state.registers[3])?;
+    show::text(rt, ": ")?;
+    show::ran(rt, answer)?;
+    show::text(rt, "\n")
 }
 
 // The three results that wrap.
-fn wrapping() {
-    operate(instruction::ADD, 2147483647, b" + ", 1);
-    operate(instruction::MUL, 46341, b" * ", 46341);
-    operate(instruction::MUL, 2147483648, b" * ", 4294967295);
+fn wrapping(rt: &impl Print) -> io::Result<()> {
+    operate(rt, instruction::ADD, 2147483647, " + ", 1)?;
+    operate(rt, instruction::MUL, 46341, " * ", 46341)?;
+    operate(rt, instruction::MUL, 2147483648, " * ", 4294967295)
 }
 
 // One step of code of two instructions over cells that hold 70 and 71, with $1 and $2 as given.
-fn one_step(name: &[u8], op: u32, a: u32, b: u32, c: u32, one: u32, two: u32) -> State {
+fn one_step(
+    rt: &impl Print,
+    name: &str,
+    op: u32,
+    a: u32,
+    b: u32,
+    c: u32,
+    one: u32,
+    two: u32,
+) -> io::Result<State> {
     let code = [op, a, b, c, instruction::HALT, 0, 0, 0];
     let mut memory = [70u32, 71];
-    show::text(name);
-    show::named_word(b", $1 = ", one);
-    show::named_word(b", $2 = ", two);
-    step(b": ", &code, &mut memory, start_with(one, two))
+    show::text(rt, name)?;
+    show::named_word(rt, ", $1 = ", one)?;
+    show::named_word(rt, ", $2 = ", two)?;
+    step(rt, ": ", &code, &mut memory, start_with(one, two))
 }
 
 // What a step left in $3, to the end of the line.
-fn third(state: State) {
-    show::named_word(b", $3 = ", state.registers[3]);
-    show::text(b"\n");
+fn third(rt: &impl Print, state: State) -> io::Result<()> {
+    show::named_word(rt, ", $3 = ", state.registers[3])?;
+    show::text(rt, "\n")
 }
 
 // slt of two words.
-fn slt(b: u32, c: u32) {
-    third(one_step(b"slt $3 $1 $2", instruction::SLT, 3, 1, 2, b, c));
+fn slt(rt: &impl Print, b: u32, c: u32) -> io::Result<()> {
+    let state = one_step(rt, "slt $3 $1 $2", instruction::SLT, 3, 1, 2, b, c)?;
+    third(rt, state)
 }
 
 // A load from the cell that base and index name.
-fn load(base: u32, index: u32) {
-    third(one_step(
-        b"load $3 $1[$2] of cells 70 71",
+fn load(rt: &impl Print, base: u32, index: u32) -> io::Result<()> {
+    let state = one_step(
+        rt,
+        "load $3 $1[$2] of cells 70 71",
         instruction::LOAD,
         3,
         1,
         2,
         base,
         index,
-    ));
+    )?;
+    third(rt, state)
 }
 
 // A branch to a label outside the code.
-fn beq(a: u32, b: u32) {
+fn beq(rt: &impl Print, a: u32, b: u32) -> io::Result<()> {
     one_step(
-        b"beq $1 $2 99 in a code of 2",
+        rt,
+        "beq $1 $2 99 in a code of 2",
         instruction::BEQ,
         1,
         2,
         99,
         a,
         b,
-    );
-    show::text(b"\n");
+    )?;
+    show::text(rt, "\n")
 }
 
 // Signed order, exact addresses, and the label of a branch.
-fn steps() {
-    slt(4294967295, 0);
-    load(2147483647, 1);
-    load(65535, 4294901761);
-    load(2147483648, 2147483648);
-    load(2147483648, 2147483649);
-    beq(0, 1);
-    beq(1, 1);
+fn steps(rt: &impl Print) -> io::Result<()> {
+    slt(rt, 4294967295, 0)?;
+    load(rt, 2147483647, 1)?;
+    load(rt, 65535, 4294901761)?;
+    load(rt, 2147483648, 2147483648)?;
+    load(rt, 2147483648, 2147483649)?;
+    beq(rt, 0, 1)?;
+    beq(rt, 1, 1)
 }
 
 // An array of 65,536 cells, alone and with a variable after it.
-fn cells() {
+fn cells(rt: &impl Print) -> io::Result<()> {
     let alone = [rule::ARRAY, 65536];
     let both = [rule::ARRAY, 65536, rule::VARIABLE, 0];
     let skip = [rule::SKIP, 0, 0, 0];
     let mut code = [0u32; 8];
-    compiled_over(b"array of 65,536 alone, skip", &alone, &skip, 0, &mut code);
     compiled_over(
-        b"array of 65,536 and a variable, skip",
+        rt,
+        "array of 65,536 alone, skip",
+        &alone,
+        &skip,
+        0,
+        &mut code,
+    )?;
+    compiled_over(
+        rt,
+        "array of 65,536 and a variable, skip",
         &both,
         &skip,
         0,
         &mut code,
-    );
+    )?;
+    Ok(())
 }
 
 // A rule of 1,024 rows in sequences, as deep as these go, run to the end.
-fn deep_sequences(name: &[u8], second: bool) {
+fn deep_sequences(rt: &impl Print, name: &str, second: bool) -> io::Result<()> {
     let mut nodes = [0u32; 4100];
     table::sequences(&mut nodes, second);
     let rows = table::rows(&nodes, 1024);
     let mut buffer = [0u32; 5464];
-    let n = compiled(name, rows, POOL_1_2, &mut buffer);
-    run_with(table::front(&buffer, n), 0, 2000);
+    let n = compiled(rt, name, rows, POOL_1_2, &mut buffer)?;
+    run_with(rt, table::front(&buffer, n), 0, 2000)
 }
 
 // A rule of 1,024 rows in ifs, run to the end, and a row more than is taken.
-fn deep_ifs() {
+fn deep_ifs(rt: &impl Print) -> io::Result<()> {
     let mut nodes = [0u32; 4100];
     table::ifs(&mut nodes);
     let rows = table::rows(&nodes, 1024);
     let mut buffer = [0u32; 5464];
-    let n = compiled(b"341 ifs nested, 1,024 rows", rows, POOL_1, &mut buffer);
-    run_with(table::front(&buffer, n), 0, 2000);
+    let n = compiled(rt, "341 ifs nested, 1,024 rows", rows, POOL_1, &mut buffer)?;
+    run_with(rt, table::front(&buffer, n), 0, 2000)?;
     compiled(
-        b"1,025 rows",
+        rt,
+        "1,025 rows",
         table::rows(&nodes, 1025),
         POOL_1,
         &mut buffer,
-    );
+    )?;
+    Ok(())
 }
 
 // A rule of 1,023 rows that wants more registers than there are.
-fn deep_nots() {
+fn deep_nots(rt: &impl Print) -> io::Result<()> {
     let mut nodes = [0u32; 4100];
     table::nots(&mut nodes);
     let rows = table::rows(&nodes, 1023);
     let mut buffer = [0u32; 8];
     compiled(
-        b"x := 1,021 nots of 0, 1,023 rows, pool 1-63",
+        rt,
+        "x := 1,021 nots of 0, 1,023 rows, pool 1-63",
         rows,
         POOL_1_63,
         &mut buffer,
-    );
+    )?;
+    Ok(())
 }
 
-fn main() {
-    assign();
-    nested();
-    not();
-    skip();
-    repeat();
-    wrapping();
-    steps();
-    cells();
-    deep_sequences(b"511 sequences nested as first, 1,024 rows", false);
-    deep_sequences(b"511 sequences nested as second, 1,024 rows", true);
-    deep_ifs();
-    deep_nots();
+fn main(rt: HostRuntime) -> io::Result<()> {
+    assign(&rt)?;
+    nested(&rt)?;
+    not(&rt)?;
+    skip(&rt)?;
+    repeat(&rt)?;
+    wrapping(&rt)?;
+    steps(&rt)?;
+    cells(&rt)?;
+    deep_sequences(&rt, "511 sequences nested as first, 1,024 rows", false)?;
+    deep_sequences(&rt, "511 sequences nested as second, 1,024 rows", true)?;
+    deep_ifs(&rt)?;
+    deep_nots(&rt)
 }
