@@ -44,7 +44,7 @@ tree=$(whole "${DESTDIR:-}")$prefix
 cd "$(dirname "$0")"
 if [ -z "$archive" ]; then
     archive=target/staticlib/libsauskinna.a
-    [ -f "$archive" ] || rt staticlib sauskinna
+    [ -f "$archive" ] || tools/archive
 fi
 mkdir -p target
 pkg_config_file >target/sauskinna.pc

@@ -54,7 +54,7 @@ archive_machine() {
 }
 
 use_archive() {
-    [ -f "$1" ] || { echo "no archive at $1: 'rt staticlib sauskinna' makes it" >&2; exit 2; }
+    [ -f "$1" ] || { echo "no archive at $1: tools/archive makes it" >&2; exit 2; }
     need ar binutils || skip "everything: no ar (install binutils)"
     machine=$(archive_machine "$1") emulator='' link='' rust_target=''
     if [ "$machine" = "$(uname -m)" ]; then

@@ -62,15 +62,12 @@ fn named(folder: PathBuf) -> Result<PathBuf, String> {
 }
 
 fn build(repository: &Path) -> Result<(), String> {
-    let rt = Command::new("rt")
-        .args(["staticlib", "sauskinna"])
-        .current_dir(repository)
-        .status();
-    match rt {
-        Ok(status) if status.success() => Ok(()),
-        Ok(status) => Err(format!("'rt staticlib sauskinna' failed: {status}")),
-        Err(error) => Err(format!(
-            "no {ARCHIVE}: {VARIABLE} is not set, target/staticlib of the repository has none, and rt cannot build it: {error}"
-        )),
-    }
+    let failure = match Command::new(repository.join("tools/archive")).status() {
+        Ok(status) if status.success() => return Ok(()),
+        Ok(status) => status.to_string(),
+        Err(error) => error.to_string(),
+    };
+    Err(format!(
+        "no {ARCHIVE}: {VARIABLE} is not set, target/staticlib of the repository has none, and its tools/archive failed: {failure}"
+    ))
 }

@@ -32,8 +32,8 @@
 //! lock. A call allocates nothing, except that [`compile`] makes the code's `Vec` and [`listing`] its `String`, and takes at most
 //! [`STACK`] bytes of stack.
 //!
-//! The build script links the archive that `rt staticlib sauskinna` makes in the repository's `target/staticlib`, or the one in
-//! the folder that `SAUSKINNA_LIB_DIR` names.
+//! The build script links the archive that the repository's `tools/archive` makes in `target/staticlib`, or the one in the folder
+//! that `SAUSKINNA_LIB_DIR` names.
 
 #![deny(missing_docs)]
 #![deny(unsafe_op_in_unsafe_fn)]

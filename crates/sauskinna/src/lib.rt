@@ -93,6 +93,7 @@ pub extern "C" fn sauskinna_listing(code: &[u32], text: &mut [u8], answer: &mut 
 
 // Takes a single step from the place and the registers lent. Answers how it went, the fault's number or 0, and the steps taken.
 // A step is a run under the budget 1, and went on where that is unfinished. The machine's run has one caller, so that it is part of `sauskinna_run`.
+#[tactic(auto, using(crate::proofs::Single::step_words))]
 #[unsafe(no_mangle)]
 pub extern "C" fn sauskinna_step(
     code: &[u32],
