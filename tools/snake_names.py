@@ -48,7 +48,8 @@ def is_own_module(path):
 
 
 def is_walk(path):
-    return path.endswith(("/Proof.antt", "/Answers.antt", "/Invariants.antt"))
+    """Whether a file is a function's own proof; a file of lemmas beside the functions' folders may be called so too."""
+    return re.search(r"/proofs/.+/(Proof|Answers|Invariants)\.antt$", path) is not None
 
 
 def turnable(name):

@@ -23,40 +23,40 @@ module _ (need count : ℕ) where
   unfolding enough
   too_few h = rw (lt-leb need count h)
 
-  pub enough-registers : need ≤ count → enough need count ≡ Passes
+  pub enough_registers : need ≤ count → enough need count ≡ Passes
   unfolding enough
-  enough-registers h = rw (le-leb need count h)
+  enough_registers h = rw (le-leb need count h)
 
 module _ (n words : ℕ) where
   pub no_room : words / 4 < n → room_for n words ≡ Refuses 12 n
   unfolding room_for
   no_room h = rw (lt-leb (n * 4) words (omega arith))
 
-  pub room-enough : n ≤ words / 4 → room_for n words ≡ Passes
+  pub room_enough : n ≤ words / 4 → room_for n words ≡ Passes
   unfolding room_for
-  room-enough h = rw (le-leb (n * 4) words (omega arith))
+  room_enough h = rw (le-leb (n * 4) words (omega arith))
 
 module _ (pool : ℕ) where
-  pub bit-set : pool % 2 ≡ 1 → pool_bit pool ≡ Refuses 3 0
+  pub bit_set : pool % 2 ≡ 1 → pool_bit pool ≡ Refuses 3 0
   unfolding pool_bit
-  bit-set h = rw h
+  bit_set h = rw h
 
   pub bit_clear : (pool % 2 ≡ 1 → ⊥) → pool_bit pool ≡ Passes
   unfolding pool_bit
   bit_clear h = rw (eq-eqb (pool % 2) 0 (omega arith))
 
 -- a check that has passed is passed over
-pub after-passed : (a b : Verdict) → a ≡ Passes → a and_then b ≡ b
-after-passed a b e = ap (λ (v : Verdict). v and_then b) e
+pub after_passed : (a b : Verdict) → a ≡ Passes → a and_then b ≡ b
+after_passed a b e = ap (λ (v : Verdict). v and_then b) e
 
-pub then-assoc : (a b c : Verdict) → (a and_then b) and_then c ≡ a and_then b and_then c
-then-assoc Passes b c = refl
-then-assoc (Refuses n v) b c = refl
+pub then_assoc : (a b c : Verdict) → (a and_then b) and_then c ≡ a and_then b and_then c
+then_assoc Passes b c = refl
+then_assoc (Refuses n v) b c = refl
 
 -- the program laid over the front of the buffer
-pub program-laid : (ρ : ℕ → Binding) (c : Com) (F l l' : List ℕ) (q : ℕ) → (size_com ρ c + 1) * 4 ≤ length l
+pub program_laid : (ρ : ℕ → Binding) (c : Com) (F l l' : List ℕ) (q : ℕ) → (size_com ρ c + 1) * 4 ≤ length l
     → Emitted l l' 0 q (t_prog ρ c F) → l' ≡ laid_over (assemble (t_prog ρ c F)) l
-program-laid ρ c F l l' q h x =
+program_laid ρ c F l l' q h x =
     let ws = assemble (t_prog ρ c F) in
     let n : length ws ≡ (size_com ρ c + 1) * 4 = length_assemble (t_prog ρ c F) ∙ ap (λ (k : ℕ). k * 4) (size_prog ρ c F) in
     let z : 0 + length ws ≡ length ws = zero-add (length ws) in

@@ -16,13 +16,13 @@ use Rattle.rule.specs.Layout.{laid_said, layout_of}
 use Rattle.rule.proofs.Verdicts.{both_pass, node_words_pass, declaration_words_pass}
 use Rattle.rule.proofs.Clean.{rows_in_order, row_in_order, last_in_order}
 use Rattle.rule.proofs.Cells.{base_at}
-use Rattle.rule.proofs.Answers.{layout-verdict, layout-cells, layout-bases}
+use Rattle.rule.proofs.Answers.{layout_verdict, layout_cells, layout_bases}
 use Rattle.compiler.specs.Pool.{registers_of}
 use Rattle.compiler.specs.Compile.{size_com, t_prog}
 use Rattle.compiler.specs.Answer.{Said, pool_bit, enough, room_for, need, instructions, cells, said_as, verdict, compiled, buffer_as, leaves}
 use Rattle.compiler.specs.Inside.{Rows, Based, ComRow}
 use Rattle.compiler.proofs.Bound.{program_small}
-use Rattle.compiler.proofs.Answers.{after-passed, then-assoc}
+use Rattle.compiler.proofs.Answers.{after_passed, then_assoc}
 
 -- the tables of a rule whose rows are in order
 pub record Ready (ds ns : List ℕ) : Type 0 where
@@ -48,30 +48,30 @@ ready ds ns w v p q =
 module _ (ds : List ℕ) (w : declaration_words (length ds) ≡ Passes) where
   declared_is : declared ds ≡ declarations ds
   unfolding declared
-  declared_is = after-passed (declaration_words (length ds)) (declarations ds) w
+  declared_is = after_passed (declaration_words (length ds)) (declarations ds) w
 
   pub layout_says : (l : Layout) → laid_said l ≡ layout_of ds → declarations ds ≡ l.verdict
-  layout_says l e = sym declared_is ∙ sym (layout-verdict ds l e)
+  layout_says l e = sym declared_is ∙ sym (layout_verdict ds l e)
 
   pub layout_based : (l : Layout) → laid_said l ≡ layout_of ds → l.verdict ≡ Passes → Based ds l.bases
   layout_based l e p =
       let n = declaration_words_pass (length ds) w in
-      let passed : declared ds ≡ Passes = sym (layout-verdict ds l e) ∙ p in
+      let passed : declared ds ≡ Passes = sym (layout_verdict ds l e) ∙ p in
       record {
-        based = λ x h. ap (λ (b : List ℕ). get_or b x 0) (layout-bases ds l e passed) ∙ base_at ds (declaration_rows ds) x h (omega arith);
+        based = λ x h. ap (λ (b : List ℕ). get_or b x 0) (layout_bases ds l e passed) ∙ base_at ds (declaration_rows ds) x h (omega arith);
       }
 
   pub layout_counts : (l : Layout) → laid_said l ≡ layout_of ds → l.verdict ≡ Passes → l.cells ≡ first_cell ds (declaration_rows ds)
-  layout_counts l e p = layout-cells ds l e (sym (layout-verdict ds l e) ∙ p)
+  layout_counts l e p = layout_cells ds l e (sym (layout_verdict ds l e) ∙ p)
 
 -- 4 to 10, and then what is left to check
 pub tables_then : (ds ns : List ℕ) (v rest : Verdict) → node_words (length ns) ≡ Passes → declarations ds ≡ Passes → nodes ds ns ≡ v
     → (declarations ds and_then rows ds ns and_then used_once ns and_then rest) ≡ v and_then rest
 unfolding nodes
 tables_then ds ns v rest w d e =
-    after-passed (declarations ds) (rows ds ns and_then used_once ns and_then rest) d
-    ∙ sym (then-assoc (rows ds ns) (used_once ns) rest)
-    ∙ ap (λ (x : Verdict). x and_then rest) (sym (after-passed (node_words (length ns)) (rows ds ns and_then used_once ns) w) ∙ e)
+    after_passed (declarations ds) (rows ds ns and_then used_once ns and_then rest) d
+    ∙ sym (then_assoc (rows ds ns) (used_once ns) rest)
+    ∙ ap (λ (x : Verdict). x and_then rest) (sym (after_passed (node_words (length ns)) (rows ds ns and_then used_once ns) w) ∙ e)
 
 pub nodes_pass : (ds ns : List ℕ) → nodes ds ns ≡ Passes → (rows ds ns ≡ Passes) × (used_once ns ≡ Passes)
 unfolding nodes
@@ -92,7 +92,7 @@ module _ (ds ns : List ℕ) (pool words : ℕ) where
   pub words_then : (v : Verdict) → node_words (length ns) and_then declaration_words (length ds) ≡ v → verdict ds ns pool words ≡ v and_then pool_bit pool and_then tables_rest
   unfolding verdict
   words_then v e =
-      sym (then-assoc (node_words (length ns)) (declaration_words (length ds)) (pool_bit pool and_then tables_rest))
+      sym (then_assoc (node_words (length ns)) (declaration_words (length ds)) (pool_bit pool and_then tables_rest))
       ∙ ap (λ (x : Verdict). x and_then pool_bit pool and_then tables_rest) e
 
   pub said_by : {v : Verdict} → verdict ds ns pool words ≡ v → said_as (instructions ds ns) (cells ds ns) (need ds ns) v ≡ compiled ds ns pool words

@@ -20,7 +20,7 @@ use Rattle.compiler.specs.Pool.{registers_of}
 use Rattle.compiler.specs.Compile.{size_com, need_com, t_prog}
 use Rattle.compiler.specs.Answer.{Said, accepted, pool_bit, enough, room_for, need, instructions, cells, said_as, verdict, compiled, buffer_as, leaves}
 use Rattle.compiler.proofs.Sizes.{size_prog, length_assemble}
-use Rattle.compiler.proofs.Answers.{after-passed}
+use Rattle.compiler.proofs.Answers.{after_passed}
 use Rattle.compiler.proofs.Ready.{ready}
 use Rattle.correctness.proofs.Frame.{Pool}
 use Rattle.correctness.proofs.Registers.{pool_registers}
@@ -89,7 +89,7 @@ module _ (ds ns : List ℕ) (pool : ℕ) (code : List ℕ) (n c k : ℕ) (said :
 
   pub cells_said : (x : ℕ) → first_cell ds x ≤ 65536
   unfolding declared
-  cells_said = cells_fit_always ds (after-passed (declaration_words (length ds)) (declarations ds) checks.1 ∙ checks.3)
+  cells_said = cells_fit_always ds (after_passed (declaration_words (length ds)) (declarations ds) checks.1 ∙ checks.3)
 
   -- the count is that of T_prog's code, and so small that a run does not refuse it
   pub length_said : length (t_prog (binding_of ds) (program ns) (registers_of pool)) ≡ n

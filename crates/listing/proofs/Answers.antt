@@ -26,9 +26,9 @@ module _ (code : List ℕ) where
   unfolding instructions
   all_pass s = scan_all (λ p. 21) (λ p. not (sound (count_of code) (fetch code p))) (count_of code) (λ j h. ap not (s j h))
 
-  pub passed-sound : instructions code ≡ Passes → (p : ℕ) → p < count_of code → sound (count_of code) (fetch code p) ≡ true
+  pub passed_sound : instructions code ≡ Passes → (p : ℕ) → p < count_of code → sound (count_of code) (fetch code p) ≡ true
   unfolding instructions
-  passed-sound e p h =
+  passed_sound e p h =
       both (sound (count_of code) (fetch code p)) (scan_passes (λ p. 21) (λ p. not (sound (count_of code) (fetch code p))) (count_of code) e p h)
     where
       both : (b : Bool) → not b ≡ false → b ≡ true
@@ -36,17 +36,17 @@ module _ (code : List ℕ) where
       both false e = sym e
 
 module _ (needed room : ℕ) where
-  pub enough-room : needed ≤ room → room_for needed room ≡ Passes
+  pub enough_room : needed ≤ room → room_for needed room ≡ Passes
   unfolding room_for
-  enough-room h = rw (le-leb needed room h)
+  enough_room h = rw (le-leb needed room h)
 
   pub no_room : room < needed → room_for needed room ≡ Refuses 22 needed
   unfolding room_for
   no_room h = rw (lt-leb needed room h)
 
-  pub room-enough : room_for needed room ≡ Passes → needed ≤ room
+  pub room_enough : room_for needed room ≡ Passes → needed ≤ room
   unfolding room_for
-  room-enough = go (leb needed room) refl
+  room_enough = go (leb needed room) refl
     where
       go : (b : Bool) → leb needed room ≡ b → cond b Passes (Refuses 22 needed) ≡ Passes → needed ≤ room
       go true e f = leb-true needed room e
@@ -54,28 +54,28 @@ module _ (needed room : ℕ) where
 
 module _ (code text : List ℕ) where
   -- the answer where all checks together give v, and what is left
-  answer-as : (v : Verdict) → verdict code (length text) ≡ v → Answer code text (said_as (length (listing code)) v) (text_as (listing code) text (said_as (length (listing code)) v))
+  answer_as : (v : Verdict) → verdict code (length text) ≡ v → Answer code text (said_as (length (listing code)) v) (text_as (listing code) text (said_as (length (listing code)) v))
   unfolding answered leaves
-  answer-as v e = let a = ap (said_as (length (listing code))) e in record { said = a; left = ap (text_as (listing code) text) a }
+  answer_as v e = let a = ap (said_as (length (listing code))) e in record { said = a; left = ap (text_as (listing code) text) a }
 
   pub not_taken : taken (length code) ≡ false → Answer code text (refused 13 0) text
   unfolding verdict code_words
-  not_taken t = answer-as (Refuses 13 0) (rw t)
+  not_taken t = answer_as (Refuses 13 0) (rw t)
 
   module _ (t : taken (length code) ≡ true) where
     pub not_sound : (n k : ℕ) → instructions code ≡ Refuses n k → Answer code text (refused n k) text
     unfolding verdict code_words
-    not_sound n k e = answer-as (Refuses n k) (rw (t, e))
+    not_sound n k e = answer_as (Refuses n k) (rw (t, e))
 
     module _ (e : instructions code ≡ Passes) where
       -- the room's verdict decides
-      pub room-decides : (v : Verdict) → room_for (length (listing code)) (length text) ≡ v
+      pub room_decides : (v : Verdict) → room_for (length (listing code)) (length text) ≡ v
           → Answer code text (said_as (length (listing code)) v) (text_as (listing code) text (said_as (length (listing code)) v))
       unfolding verdict code_words
-      room-decides v r = answer-as v (rw (t, e) r)
+      room_decides v r = answer_as v (rw (t, e) r)
 
       pub has_room : length (listing code) ≤ length text → Answer code text (listed (length (listing code))) (laid_over (listing code) text)
-      has_room h = room-decides Passes (enough-room (length (listing code)) (length text) h)
+      has_room h = room_decides Passes (enough_room (length (listing code)) (length text) h)
 
       pub too_short : length text < length (listing code) → Answer code text (refused 22 (length (listing code))) text
-      too_short h = room-decides (Refuses 22 (length (listing code))) (no_room (length (listing code)) (length text) h)
+      too_short h = room_decides (Refuses 22 (length (listing code))) (no_room (length (listing code)) (length text) h)

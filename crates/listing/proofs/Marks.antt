@@ -19,7 +19,7 @@ use Rattle.listing.specs.Listing.{target_of, leads_to, jumps_to, named_in, insid
 use Rattle.listing.specs.Inside.{most, longest, marked, Sound, Marked}
 use Rattle.listing.proofs.Lines.{sound_formed, sound_found, sound_inside, line_found, fetch_words}
 use Rattle.listing.proofs.Bounds.{line_short}
-use Rattle.listing.proofs.Answers.{passed-sound, has_room}
+use Rattle.listing.proofs.Answers.{passed_sound, has_room}
 
 pub none_marked : (code : List ℕ) → Marked code 0 (replicate most false)
 unfolding named_in
@@ -55,7 +55,7 @@ module _ {code : List ℕ} (s : Sound code) where
 
   module _ (p o a b c : ℕ) (h : p < count_of code) (e : decode o a b c ≡ fetch code p) where
     sound_at : sound (count_of code) (decode o a b c) ≡ true
-    sound_at = ap (sound (count_of code)) e ∙ passed-sound code s.instructions p h
+    sound_at = ap (sound (count_of code)) e ∙ passed_sound code s.instructions p h
 
     found_at : fetch code p ≡ found (ins o a b c)
     found_at = sym e ∙ sound_found (count_of code) o a b c sound_at

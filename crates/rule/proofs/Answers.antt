@@ -20,38 +20,38 @@ again (Refuses n v) b c d e = refl
 again Passes (Refuses n v) c d e = refl
 again Passes Passes c d e = refl
 
-pub words-verdict : (n d : ℕ) {v : Verdict} → verdict_said v ≡ words_checked n d → v ≡ node_words n and_then declaration_words d
+pub words_verdict : (n d : ℕ) {v : Verdict} → verdict_said v ≡ words_checked n d → v ≡ node_words n and_then declaration_words d
 unfolding words_checked
-words-verdict n d e = one_verdict _ _ e
+words_verdict n d e = one_verdict _ _ e
 
-pub rows-verdict : (ds ns : List ℕ) {v : Verdict} → verdict_said v ≡ rows_checked ds ns → v ≡ nodes ds ns
+pub rows_verdict : (ds ns : List ℕ) {v : Verdict} → verdict_said v ≡ rows_checked ds ns → v ≡ nodes ds ns
 unfolding rows_checked
-rows-verdict ds ns e = one_verdict _ _ e
+rows_verdict ds ns e = one_verdict _ _ e
 
 module _ (ds ns : List ℕ) where
-  pub tables-in-order : (node_words (length ns) and_then declaration_words (length ds)) and_then (declared ds and_then nodes ds ns) ≡ tables ds ns
+  pub tables_in_order : (node_words (length ns) and_then declaration_words (length ds)) and_then (declared ds and_then nodes ds ns) ≡ tables ds ns
   unfolding declared nodes tables
-  tables-in-order =
+  tables_in_order =
       again (node_words (length ns)) (declaration_words (length ds)) (declarations ds) (rows ds ns) (used_once ns)
 
-  pub checked-from : {a b c : Verdict} → a ≡ node_words (length ns) and_then declaration_words (length ds) → b ≡ declared ds → c ≡ nodes ds ns → said_of ds (a and_then (b and_then c)) ≡ checked ds ns
+  pub checked_from : {a b c : Verdict} → a ≡ node_words (length ns) and_then declaration_words (length ds) → b ≡ declared ds → c ≡ nodes ds ns → said_of ds (a and_then (b and_then c)) ≡ checked ds ns
   unfolding checked
-  checked-from p q r = rw (p, q, r) (ap (said_of ds) tables-in-order)
+  checked_from p q r = rw (p, q, r) (ap (said_of ds) tables_in_order)
 
 module _ (ds : List ℕ) where
-  said-of : (v : Verdict) → (laid_out ds v).said ≡ verdict_said v
+  said_of_lem : (v : Verdict) → (laid_out ds v).said ≡ verdict_said v
   unfolding verdict_said
-  said-of Passes = refl
-  said-of (Refuses n v) = refl
+  said_of_lem Passes = refl
+  said_of_lem (Refuses n v) = refl
 
-  pub layout-verdict : (l : Layout) → laid_said l ≡ layout_of ds → l.verdict ≡ declared ds
+  pub layout_verdict : (l : Layout) → laid_said l ≡ layout_of ds → l.verdict ≡ declared ds
   unfolding layout_of laid_said
-  layout-verdict l e = one_verdict _ _ (ap (λ (x : Laid). x.said) e ∙ said-of (declared ds))
+  layout_verdict l e = one_verdict _ _ (ap (λ (x : Laid). x.said) e ∙ said_of_lem (declared ds))
 
-  pub layout-cells : (l : Layout) → laid_said l ≡ layout_of ds → declared ds ≡ Passes → l.cells ≡ first_cell ds (declaration_rows ds)
+  pub layout_cells : (l : Layout) → laid_said l ≡ layout_of ds → declared ds ≡ Passes → l.cells ≡ first_cell ds (declaration_rows ds)
   unfolding layout_of laid_said
-  layout-cells l e p = ap (λ (x : Laid). x.cells) e ∙ ap (λ (v : Verdict). (laid_out ds v).cells) p
+  layout_cells l e p = ap (λ (x : Laid). x.cells) e ∙ ap (λ (v : Verdict). (laid_out ds v).cells) p
 
-  pub layout-bases : (l : Layout) → laid_said l ≡ layout_of ds → declared ds ≡ Passes → l.bases ≡ first_cells ds (declaration_rows ds)
+  pub layout_bases : (l : Layout) → laid_said l ≡ layout_of ds → declared ds ≡ Passes → l.bases ≡ first_cells ds (declaration_rows ds)
   unfolding layout_of laid_said
-  layout-bases l e p = ap (λ (x : Laid). x.bases) e ∙ ap (λ (v : Verdict). (laid_out ds v).bases) p
+  layout_bases l e p = ap (λ (x : Laid). x.bases) e ∙ ap (λ (v : Verdict). (laid_out ds v).bases) p

@@ -8,7 +8,7 @@ use Rattle.refusal.specs.declared.Verdict.TheVariants.{Passes}
 use Rattle.refusal.specs.Refusal.{◌and_then◌}
 use Rattle.rule.specs.Answer.{verdict_said, rows_checked}
 use Rattle.rule.specs.Check.{node_words, declaration_words}
-use Rattle.rule.proofs.Answers.{rows-verdict}
+use Rattle.rule.proofs.Answers.{rows_verdict}
 use Rattle.compiler.specs.Pool.{registers_of}
 use Rattle.compiler.specs.Answer.{Said, enough, room_for, need, instructions, cells, said_as}
 use Rattle.compiler.proofs.Ready.{Ready, ready, layout_says, layout_based, layout_counts, tables_then, nodes_pass}
@@ -18,7 +18,7 @@ module _ (ds ns : List ℕ) where
   -- the rows passed
   rows_ready : node_words (length ns) ≡ Passes → declaration_words (length ds) ≡ Passes → {x : Verdict} → verdict_said x ≡ rows_checked ds ns → x ≡ Passes
       → Ready ds ns
-  rows_ready w v e q = let p = nodes_pass ds ns (sym (rows-verdict ds ns e) ∙ q) in ready ds ns w v p.0 p.1
+  rows_ready w v e q = let p = nodes_pass ds ns (sym (rows_verdict ds ns e) ∙ q) in ready ds ns w v p.0 p.1
 
   -- refusals 11 and 12, which come last
   abbrev rest : ℕ → ℕ → Verdict
@@ -58,7 +58,7 @@ returns-in-Refuses-checked-clause-answer c =
     let ds = c.args.declarations.now in
     let ns = c.args.nodes.now in
     let d = layout_says ds c.requires.declarations_value _ c.lay_out-layout.ensures ∙ c.in-Passes.is in
-    let v = sym (rows-verdict ds ns c.check_rows-checked.ensures) ∙ c.in-Refuses-checked.is in
+    let v = sym (rows_verdict ds ns c.check_rows-checked.ensures) ∙ c.in-Refuses-checked.is in
     sym (ap (said ds ns) (tables_then ds ns _ (rest ds ns c.args.pool (length c.args.code.now)) c.requires.nodes_value d v))
 
 pub returns-in-Passes-checked-clause-answer : goal.returns-in-Passes-checked-clause-answer
@@ -67,7 +67,7 @@ returns-in-Passes-checked-clause-answer c =
     let ns = c.args.nodes.now in
     let r = rest ds ns c.args.pool (length c.args.code.now) in
     let d = layout_says ds c.requires.declarations_value _ c.lay_out-layout.ensures ∙ c.in-Passes.is in
-    let v = sym (rows-verdict ds ns c.check_rows-checked.ensures) ∙ c.in-Passes-checked.is in
+    let v = sym (rows_verdict ds ns c.check_rows-checked.ensures) ∙ c.in-Passes-checked.is in
     let n = layout_counts ds c.requires.declarations_value _ c.lay_out-layout.ensures c.in-Passes.is in
     c.generate.ensures.answer
     ∙ ap (λ (k : ℕ). said_as (instructions ds ns) k (need ds ns) r) n

@@ -6,7 +6,7 @@ use Rattle.compiler.specs.Pool.{registers_of}
 use Rattle.compiler.specs.Compile.{t_prog}
 use Rattle.compiler.proofs.Emitting.{emitted_then}
 use Rattle.compiler.proofs.Constructs.{past_com}
-use Rattle.compiler.proofs.Answers.{too_few, enough-registers, no_room, room-enough, program-laid}
+use Rattle.compiler.proofs.Answers.{too_few, enough_registers, no_room, room_enough, program_laid}
 use Rattle.compiler.proofs.generate.Goals as goal
 
 pub returns-then-count-need-clause-answer : goal.returns-then-count-need-clause-answer
@@ -21,7 +21,7 @@ returns-then-code-wide-clause-answer c =
     rw (
       ← c.need_com-need.ensures.value,
       ← c.size_com-instructions.ensures,
-      enough-registers _ _ h,
+      enough_registers _ _ h,
       no_room (c.size_com-instructions.result + 1) (length c.args.code.now) (omega (arith, g)),
     )
 
@@ -37,12 +37,12 @@ pub returns-clause-answer : goal.returns-clause-answer
 returns-clause-answer c =
     let h = rw c.count.ensures at c.if-count-need.false in
     let g = rw c.wide.ensures at c.if-code-wide.false in
-    rw (← c.need_com-need.ensures.value, ← c.size_com-instructions.ensures, enough-registers _ _ h, room-enough _ _ g)
+    rw (← c.need_com-need.ensures.value, ← c.size_com-instructions.ensures, enough_registers _ _ h, room_enough _ _ g)
 
 pub returns-clause-buffer : goal.returns-clause-buffer
 unfolding t_prog
 returns-clause-buffer c =
     let g = rw c.wide.ensures at c.if-code-wide.false in
     let e = c.size_com-instructions.ensures in
-    program-laid (binding_of c.args.declarations.now.now) (com_at c.args.nodes.now.now c.args.row) (registers_of c.args.pool) c.args.code.now _ _ (omega (arith, g, e))
+    program_laid (binding_of c.args.declarations.now.now) (com_at c.args.nodes.now.now c.args.row) (registers_of c.args.pool) c.args.code.now _ _ (omega (arith, g, e))
     (emitted_then c.emit_com-end.ensures c.put.ensures)

@@ -33,8 +33,8 @@ module _ (w : KnownCom) where
   C j = com_at w.ns (named j)
 
   -- registers and room, said of the tree that was read
-  fit-as : {x : Com} {l : List ℕ} {p : ℕ} {F : List ℕ} → FitCom ρ (com_at w.ns w.i) l p F → com_at w.ns w.i ≡ x → FitCom ρ x l p F
-  fit-as {l = l} {p} {F} f e = subst (λ (x : Com). FitCom ρ x l p F) e f
+  fit_as : {x : Com} {l : List ℕ} {p : ℕ} {F : List ℕ} → FitCom ρ (com_at w.ns w.i) l p F → com_at w.ns w.i ≡ x → FitCom ρ x l p F
+  fit_as {l = l} {p} {F} f e = subst (λ (x : Com). FitCom ρ x l p F) e f
 
   done : (F : List ℕ) {x : Com} → com_at w.ns w.i ≡ x → {l l' : List ℕ} {p q : ℕ} → Emitted l l' p q (t_com ρ x F p)
       → Emitted l l' p q (t_com ρ (com_at w.ns w.i) F p)
@@ -49,36 +49,36 @@ module _ (w : KnownCom) where
 
   -- while and if share their test and their body
   module _ {l : List ℕ} {p : ℕ} {F : List ℕ} (f : FitCom ρ (com_at w.ns w.i) l p F) (n6 : w.k ≡ 16 → ⊥) (n7 : w.k ≡ 17 → ⊥) (n8 : w.k ≡ 18 → ⊥) (n9 : w.k ≡ 19 → ⊥) where
-    while-fits : w.k ≡ 21 → FitTest ρ l p F (E 1) (C 2) 1
-    while-fits e = test_while ρ l p F (E 1) (C 2) (fit-as f (at_com w R.while_read n6 n7 n8 n9 e))
+    while_fits : w.k ≡ 21 → FitTest ρ l p F (E 1) (C 2) 1
+    while_fits e = test_while ρ l p F (E 1) (C 2) (fit_as f (at_com w R.while_read n6 n7 n8 n9 e))
 
-    choose-fits : (w.k ≡ 21 → ⊥) → FitTest ρ l p F (E 1) (C 2) (1 + size_com ρ (C 3))
-    choose-fits n = test_choose ρ l p F (E 1) (C 2) (C 3) (fit-as f (at_com w R.choose_read n6 n7 n8 n9 n))
+    choose_fits : (w.k ≡ 21 → ⊥) → FitTest ρ l p F (E 1) (C 2) (1 + size_com ρ (C 3))
+    choose_fits n = test_choose ρ l p F (E 1) (C 2) (C 3) (fit_as f (at_com w R.choose_read n6 n7 n8 n9 n))
 
     shared : {P : Type 0} → ((m : ℕ) → FitTest ρ l p F (E 1) (C 2) m → P) → P
     shared g =
         R.while_or_choose w.ds w.ns w.all w.i w.row w.k w.is n6 n7 n8 n9
-        (λ q. g 1 (test_while ρ l p F (E 1) (C 2) (fit-as f q))) (λ q. g (1 + size_com ρ (C 3)) (test_choose ρ l p F (E 1) (C 2) (C 3) (fit-as f q)))
+        (λ q. g 1 (test_while ρ l p F (E 1) (C 2) (fit_as f q))) (λ q. g (1 + size_com ρ (C 3)) (test_choose ρ l p F (E 1) (C 2) (C 3) (fit_as f q)))
 
     -- after the test
     module _ {l₁ : List ℕ} {q : ℕ} (px : Past ρ (E 1) l l₁ p q) where
-      body-fits : FitCom ρ (C 2) l₁ (q + 1) F
-      body-fits = shared (λ m g. fit_body ρ l p F g px)
+      body_fits : FitCom ρ (C 2) l₁ (q + 1) F
+      body_fits = shared (λ m g. fit_body ρ l p F g px)
 
       -- after the body
       module _ {l₂ : List ℕ} {r : ℕ} (py : PastCom ρ (C 2) l₁ l₂ (q + 1) r) where
-        after-while : w.k ≡ 21 → (q + 1 ≤ r) × (r + 1 < 4294967296) × ((r + 1) * 4 ≤ length l₂)
-        after-while e = after_body ρ l p F (while-fits e) px py
+        after_while : w.k ≡ 21 → (q + 1 ≤ r) × (r + 1 < 4294967296) × ((r + 1) * 4 ≤ length l₂)
+        after_while e = after_body ρ l p F (while_fits e) px py
 
-        after-choose : (w.k ≡ 21 → ⊥)
+        after_choose : (w.k ≡ 21 → ⊥)
             → (q + 1 ≤ r) × (r + (1 + size_com ρ (C 3)) < 4294967296) × ((r + (1 + size_com ρ (C 3))) * 4 ≤ length l₂)
-        after-choose n = after_body ρ l p F (choose-fits n) px py
+        after_choose n = after_body ρ l p F (choose_fits n) px py
 
 pub put-requires : goal.put-requires
 unfolding size_com
 put-requires t c =
     let w = known_com c.requires.rows c.requires.com_row c.word-kind.ensures in
-    (fit-as w c.requires.fit_com (at_com w R.skip_read c.if-kind-eq-SKIP.true)).room
+    (fit_as w c.requires.fit_com (at_com w R.skip_read c.if-kind-eq-SKIP.true)).room
 
 pub returns-then-kind-eq-SKIP : goal.returns-then-kind-eq-SKIP
 unfolding t_com
@@ -90,7 +90,7 @@ pub emit_com-p-requires : goal.emit_com-p-requires
 emit_com-p-requires t c =
     let w = known_com c.requires.rows c.requires.com_row c.word-kind.ensures in
     let F = registers_of c.args.pool in
-    let f = fit-as w c.requires.fit_com (at_com w R.sequence_read c.if-kind-eq-SEQUENCE.true) in
+    let f = fit_as w c.requires.fit_com (at_com w R.sequence_read c.if-kind-eq-SEQUENCE.true) in
     ask w c.decreases c.requires.based 1 c.link.ensures (at_com w R.sequence_first c.if-kind-eq-SEQUENCE.true)
     (fit_first (ρ w) c.args.code.now c.args.at F (C w 1) (C w 2) f)
 
@@ -98,7 +98,7 @@ pub emit_com-requires : goal.emit_com-requires
 emit_com-requires t c =
     let w = known_com c.requires.rows c.requires.com_row c.word-kind.ensures in
     let F = registers_of c.args.pool in
-    let f = fit-as w c.requires.fit_com (at_com w R.sequence_read c.if-kind-eq-SEQUENCE.true) in
+    let f = fit_as w c.requires.fit_com (at_com w R.sequence_read c.if-kind-eq-SEQUENCE.true) in
     let x = com_laid (ρ w) w.ns c.link.result (named w 1) c.link.ensures F c.emit_com-p.ensures in
     ask w c.decreases c.requires.based 2 c.link-then-kind-eq-SEQUENCE.ensures (at_com w R.sequence_second c.if-kind-eq-SEQUENCE.true)
     (fit_second (ρ w) c.args.code.now c.args.at F (C w 1) (C w 2) f (past_com (ρ w) (C w 1) F x))
@@ -138,7 +138,7 @@ overflow_add-p t c =
     let w = known_com c.requires.rows c.requires.com_row c.word-kind.ensures in
     let x = exp_laid (ρ w) w.ns c.link-2.result (named w 1) c.link-2.ensures c.lowest-t.result (registers_of c.cleared.result) c.emit_exp-p.ensures in
     let px = past (ρ w) (E w 1) c.lowest-t.result (registers_of c.cleared.result) x in
-    let h = (body-fits w c.requires.fit_com c.if-kind-eq-SKIP.false c.if-kind-eq-ASSIGN.false c.if-kind-eq-ASSIGN_ELEMENT.false c.if-kind-eq-SEQUENCE.false px).room.small in
+    let h = (body_fits w c.requires.fit_com c.if-kind-eq-SKIP.false c.if-kind-eq-ASSIGN.false c.if-kind-eq-ASSIGN_ELEMENT.false c.if-kind-eq-SEQUENCE.false px).room.small in
     omega arith
 
 pub emit_com-q-requires : goal.emit_com-q-requires
@@ -146,7 +146,7 @@ emit_com-q-requires t c =
     let w = known_com c.requires.rows c.requires.com_row c.word-kind.ensures in
     let x = exp_laid (ρ w) w.ns c.link-2.result (named w 1) c.link-2.ensures c.lowest-t.result (registers_of c.cleared.result) c.emit_exp-p.ensures in
     let px = past (ρ w) (E w 1) c.lowest-t.result (registers_of c.cleared.result) x in
-    ask w c.decreases c.requires.based 2 c.link-3.ensures (at_com w R.body c.if-kind-eq-SKIP.false c.if-kind-eq-ASSIGN.false c.if-kind-eq-ASSIGN_ELEMENT.false c.if-kind-eq-SEQUENCE.false) (body-fits w c.requires.fit_com c.if-kind-eq-SKIP.false c.if-kind-eq-ASSIGN.false c.if-kind-eq-ASSIGN_ELEMENT.false c.if-kind-eq-SEQUENCE.false px)
+    ask w c.decreases c.requires.based 2 c.link-3.ensures (at_com w R.body c.if-kind-eq-SKIP.false c.if-kind-eq-ASSIGN.false c.if-kind-eq-ASSIGN_ELEMENT.false c.if-kind-eq-SEQUENCE.false) (body_fits w c.requires.fit_com c.if-kind-eq-SKIP.false c.if-kind-eq-ASSIGN.false c.if-kind-eq-ASSIGN_ELEMENT.false c.if-kind-eq-SEQUENCE.false px)
 
 pub put-r-requires : goal.put-r-requires
 put-r-requires t c =
@@ -156,7 +156,7 @@ put-r-requires t c =
     let px = past (ρ w) (E w 1) c.lowest-t.result (registers_of c.cleared.result) x in
     let y = com_laid (ρ w) w.ns c.link-3.result (named w 2) c.link-3.ensures F c.emit_com-q.ensures in
     let py = past_com (ρ w) (C w 2) F y in
-    let h = after-while w c.requires.fit_com c.if-kind-eq-SKIP.false c.if-kind-eq-ASSIGN.false c.if-kind-eq-ASSIGN_ELEMENT.false c.if-kind-eq-SEQUENCE.false px py c.if-kind-eq-WHILE.true in
+    let h = after_while w c.requires.fit_com c.if-kind-eq-SKIP.false c.if-kind-eq-ASSIGN.false c.if-kind-eq-ASSIGN_ELEMENT.false c.if-kind-eq-SEQUENCE.false px py c.if-kind-eq-WHILE.true in
     record { fits = h.2; small = h.1 }
 
 pub label-requires-then-kind-eq-WHILE : goal.label-requires-then-kind-eq-WHILE
@@ -167,7 +167,7 @@ label-requires-then-kind-eq-WHILE t c =
     let px = past (ρ w) (E w 1) c.lowest-t.result (registers_of c.cleared.result) x in
     let y = com_laid (ρ w) w.ns c.link-3.result (named w 2) c.link-3.ensures F c.emit_com-q.ensures in
     let py = past_com (ρ w) (C w 2) F y in
-    let h = after-while w c.requires.fit_com c.if-kind-eq-SKIP.false c.if-kind-eq-ASSIGN.false c.if-kind-eq-ASSIGN_ELEMENT.false c.if-kind-eq-SEQUENCE.false px py c.if-kind-eq-WHILE.true in
+    let h = after_while w c.requires.fit_com c.if-kind-eq-SKIP.false c.if-kind-eq-ASSIGN.false c.if-kind-eq-ASSIGN_ELEMENT.false c.if-kind-eq-SEQUENCE.false px py c.if-kind-eq-WHILE.true in
     h.1
 
 pub put-requires-then-kind-eq-WHILE : goal.put-requires-then-kind-eq-WHILE
@@ -178,7 +178,7 @@ put-requires-then-kind-eq-WHILE t c =
     let px = past (ρ w) (E w 1) c.lowest-t.result (registers_of c.cleared.result) x in
     let y = com_laid (ρ w) w.ns c.link-3.result (named w 2) c.link-3.ensures F c.emit_com-q.ensures in
     let py = past_com (ρ w) (C w 2) F y in
-    let h = after-while w c.requires.fit_com c.if-kind-eq-SKIP.false c.if-kind-eq-ASSIGN.false c.if-kind-eq-ASSIGN_ELEMENT.false c.if-kind-eq-SEQUENCE.false px py c.if-kind-eq-WHILE.true in
+    let h = after_while w c.requires.fit_com c.if-kind-eq-SKIP.false c.if-kind-eq-ASSIGN.false c.if-kind-eq-ASSIGN_ELEMENT.false c.if-kind-eq-SEQUENCE.false px py c.if-kind-eq-WHILE.true in
     let g = emitted_length c.put-r.ensures in
     record { fits = omega (arith, h, g); small = omega (arith, h) }
 
@@ -199,7 +199,7 @@ overflow_add-q t c =
     let px = past (ρ w) (E w 1) c.lowest-t.result (registers_of c.cleared.result) x in
     let y = com_laid (ρ w) w.ns c.link-3.result (named w 2) c.link-3.ensures F c.emit_com-q.ensures in
     let py = past_com (ρ w) (C w 2) F y in
-    let h = after-choose w c.requires.fit_com c.if-kind-eq-SKIP.false c.if-kind-eq-ASSIGN.false c.if-kind-eq-ASSIGN_ELEMENT.false c.if-kind-eq-SEQUENCE.false px py c.if-kind-eq-WHILE.false in
+    let h = after_choose w c.requires.fit_com c.if-kind-eq-SKIP.false c.if-kind-eq-ASSIGN.false c.if-kind-eq-ASSIGN_ELEMENT.false c.if-kind-eq-SEQUENCE.false px py c.if-kind-eq-WHILE.false in
     omega arith
 
 pub emit_com-r-requires : goal.emit_com-r-requires
@@ -210,8 +210,8 @@ emit_com-r-requires t c =
     let px = past (ρ w) (E w 1) c.lowest-t.result (registers_of c.cleared.result) x in
     let y = com_laid (ρ w) w.ns c.link-3.result (named w 2) c.link-3.ensures F c.emit_com-q.ensures in
     let py = past_com (ρ w) (C w 2) F y in
-    let h = after-choose w c.requires.fit_com c.if-kind-eq-SKIP.false c.if-kind-eq-ASSIGN.false c.if-kind-eq-ASSIGN_ELEMENT.false c.if-kind-eq-SEQUENCE.false px py c.if-kind-eq-WHILE.false in
-    let f = fit-as w c.requires.fit_com (at_com w R.choose_read c.if-kind-eq-SKIP.false c.if-kind-eq-ASSIGN.false c.if-kind-eq-ASSIGN_ELEMENT.false c.if-kind-eq-SEQUENCE.false c.if-kind-eq-WHILE.false) in
+    let h = after_choose w c.requires.fit_com c.if-kind-eq-SKIP.false c.if-kind-eq-ASSIGN.false c.if-kind-eq-ASSIGN_ELEMENT.false c.if-kind-eq-SEQUENCE.false px py c.if-kind-eq-WHILE.false in
+    let f = fit_as w c.requires.fit_com (at_com w R.choose_read c.if-kind-eq-SKIP.false c.if-kind-eq-ASSIGN.false c.if-kind-eq-ASSIGN_ELEMENT.false c.if-kind-eq-SEQUENCE.false c.if-kind-eq-WHILE.false) in
     ask w c.decreases c.requires.based 3 c.link-4.ensures (at_com w R.other c.if-kind-eq-SKIP.false c.if-kind-eq-ASSIGN.false c.if-kind-eq-ASSIGN_ELEMENT.false c.if-kind-eq-SEQUENCE.false c.if-kind-eq-WHILE.false)
     (record { need = need_else (ρ w) c.args.code.now c.args.at F (E w 1) (C w 2) (C w 3) f; room = record { fits = omega (arith, h); small = omega (arith, h) } })
 
@@ -223,7 +223,7 @@ label-requires-2 t c =
     let px = past (ρ w) (E w 1) c.lowest-t.result (registers_of c.cleared.result) x in
     let y = com_laid (ρ w) w.ns c.link-3.result (named w 2) c.link-3.ensures F c.emit_com-q.ensures in
     let py = past_com (ρ w) (C w 2) F y in
-    let h = after-choose w c.requires.fit_com c.if-kind-eq-SKIP.false c.if-kind-eq-ASSIGN.false c.if-kind-eq-ASSIGN_ELEMENT.false c.if-kind-eq-SEQUENCE.false px py c.if-kind-eq-WHILE.false in
+    let h = after_choose w c.requires.fit_com c.if-kind-eq-SKIP.false c.if-kind-eq-ASSIGN.false c.if-kind-eq-ASSIGN_ELEMENT.false c.if-kind-eq-SEQUENCE.false px py c.if-kind-eq-WHILE.false in
     let z = com_laid (ρ w) w.ns c.link-4.result (named w 3) c.link-4.ensures F c.emit_com-r.ensures in
     let pz = past_com (ρ w) (C w 3) F z in
     omega (arith, h, pz.next)
@@ -236,7 +236,7 @@ put-requires-2 t c =
     let px = past (ρ w) (E w 1) c.lowest-t.result (registers_of c.cleared.result) x in
     let y = com_laid (ρ w) w.ns c.link-3.result (named w 2) c.link-3.ensures F c.emit_com-q.ensures in
     let py = past_com (ρ w) (C w 2) F y in
-    let h = after-choose w c.requires.fit_com c.if-kind-eq-SKIP.false c.if-kind-eq-ASSIGN.false c.if-kind-eq-ASSIGN_ELEMENT.false c.if-kind-eq-SEQUENCE.false px py c.if-kind-eq-WHILE.false in
+    let h = after_choose w c.requires.fit_com c.if-kind-eq-SKIP.false c.if-kind-eq-ASSIGN.false c.if-kind-eq-ASSIGN_ELEMENT.false c.if-kind-eq-SEQUENCE.false px py c.if-kind-eq-WHILE.false in
     let z = com_laid (ρ w) w.ns c.link-4.result (named w 3) c.link-4.ensures F c.emit_com-r.ensures in
     let pz = past_com (ρ w) (C w 3) F z in
     record { fits = omega (arith, h, pz.same); small = omega (arith, h) }
@@ -249,7 +249,7 @@ put-requires-3 t c =
     let px = past (ρ w) (E w 1) c.lowest-t.result (registers_of c.cleared.result) x in
     let y = com_laid (ρ w) w.ns c.link-3.result (named w 2) c.link-3.ensures F c.emit_com-q.ensures in
     let py = past_com (ρ w) (C w 2) F y in
-    let h = after-choose w c.requires.fit_com c.if-kind-eq-SKIP.false c.if-kind-eq-ASSIGN.false c.if-kind-eq-ASSIGN_ELEMENT.false c.if-kind-eq-SEQUENCE.false px py c.if-kind-eq-WHILE.false in
+    let h = after_choose w c.requires.fit_com c.if-kind-eq-SKIP.false c.if-kind-eq-ASSIGN.false c.if-kind-eq-ASSIGN_ELEMENT.false c.if-kind-eq-SEQUENCE.false px py c.if-kind-eq-WHILE.false in
     let z = com_laid (ρ w) w.ns c.link-4.result (named w 3) c.link-4.ensures F c.emit_com-r.ensures in
     let pz = past_com (ρ w) (C w 3) F z in
     let g = emitted_length c.put-2.ensures in

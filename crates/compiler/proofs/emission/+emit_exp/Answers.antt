@@ -33,8 +33,8 @@ module _ (w : KnownExp) where
   op j = exp_at w.ns (named j)
 
   -- registers and room, said of the tree that was read
-  fit-as : {e : Exp} {l : List ℕ} {p : ℕ} {F : List ℕ} → Fit ρ (exp_at w.ns w.i) l p F → exp_at w.ns w.i ≡ e → Fit ρ e l p F
-  fit-as {l = l} {p} {F} f e = subst (λ (x : Exp). Fit ρ x l p F) e f
+  fit_as : {e : Exp} {l : List ℕ} {p : ℕ} {F : List ℕ} → Fit ρ (exp_at w.ns w.i) l p F → exp_at w.ns w.i ≡ e → Fit ρ e l p F
+  fit_as {l = l} {p} {F} f e = subst (λ (x : Exp). Fit ρ x l p F) e f
 
   -- a call on the row m that word j names
   ask : {t : ℕ} → w.i ≡ t → {bs : List ℕ} → Based w.ds bs → (j : ℕ) {m : ℕ} → m ≡ named j → SubExp w.ns w.i j → {l : List ℕ} {q : ℕ} {G H : List ℕ} → G ≡ H
@@ -51,24 +51,24 @@ module _ (w : KnownExp) where
 
   module _ {l : List ℕ} {p : ℕ} {F : List ℕ} (f : Fit ρ (exp_at w.ns w.i) l p F) (n1 : w.k ≡ 1 → ⊥) (n2 : w.k ≡ 2 → ⊥) where
     module _ (n3 : w.k ≡ 3 → ⊥) where
-      first-fits : (0 < length F) × Fit ρ (op 1) l p (without F)
-      first-fits =
-          R.not_or_binary w.ds w.ns w.all w.i w.row w.k w.is n1 n2 n3 (λ q. fit_not ρ l p F (op 1) (fit-as f q))
-          (λ q. let h = fit_left ρ l p F (op_of (kind_of w.k)) (op 1) (op 2) (fit-as f q) in (h.0, h.1))
+      first_fits : (0 < length F) × Fit ρ (op 1) l p (without F)
+      first_fits =
+          R.not_or_binary w.ds w.ns w.all w.i w.row w.k w.is n1 n2 n3 (λ q. fit_not ρ l p F (op 1) (fit_as f q))
+          (λ q. let h = fit_left ρ l p F (op_of (kind_of w.k)) (op 1) (op 2) (fit_as f q) in (h.0, h.1))
 
     -- what is neither a value nor an identifier needs a register
     some : 0 < length F
     some = go (ℕ_discrete w.k 3)
       where
         go : Dec (w.k ≡ 3) → 0 < length F
-        go (yes e) = (fit_element ρ l p F (named 1) (op 2) (fit-as f (at_exp w R.element_read e))).0
-        go (no n3) = (first-fits n3).0
+        go (yes e) = (fit_element ρ l p F (named 1) (op 2) (fit_as f (at_exp w R.element_read e))).0
+        go (no n3) = (first_fits n3).0
 
 pub put-requires : goal.put-requires
 unfolding size_exp
 put-requires t c =
     let w = known_exp c.requires.rows c.requires.exp_row c.word-kind.ensures in
-    (fit-as w c.requires.fit (at_exp w R.value_read c.if-kind-eq-VALUE.true)).room
+    (fit_as w c.requires.fit (at_exp w R.value_read c.if-kind-eq-VALUE.true)).room
 
 pub returns-then-kind-eq-VALUE : goal.returns-then-kind-eq-VALUE
 unfolding t_exp
@@ -81,14 +81,14 @@ pub emit_name-requires-clause-x_in_bounds : goal.emit_name-requires-clause-x_in_
 unfolding need_exp
 emit_name-requires-clause-x_in_bounds t c =
     let w = known_exp c.requires.rows c.requires.exp_row c.word-kind.ensures in
-    let f = fit-as w c.requires.fit (at_exp w R.ident_read c.if-kind-eq-IDENTIFIER.true) in
+    let f = fit_as w c.requires.fit (at_exp w R.ident_read c.if-kind-eq-IDENTIFIER.true) in
     subst (λ (x : ℕ). need_named (ρ w x) ≤ length (registers_of c.args.pool)) (sym c.link.ensures) f.need
 
 pub emit_name-requires-clause-room : goal.emit_name-requires-clause-room
 unfolding size_exp
 emit_name-requires-clause-room t c =
     let w = known_exp c.requires.rows c.requires.exp_row c.word-kind.ensures in
-    let f = fit-as w c.requires.fit (at_exp w R.ident_read c.if-kind-eq-IDENTIFIER.true) in
+    let f = fit_as w c.requires.fit (at_exp w R.ident_read c.if-kind-eq-IDENTIFIER.true) in
     subst (λ (x : ℕ). Room c.args.code.now c.args.at (size_named (ρ w x))) (sym c.link.ensures) f.room
 
 pub returns-then-kind-eq-IDENTIFIER : goal.returns-then-kind-eq-IDENTIFIER
@@ -109,20 +109,20 @@ cleared-rest-requires t c =
 pub emit_exp-p-requires : goal.emit_exp-p-requires
 emit_exp-p-requires t c =
     let w = known_exp c.requires.rows c.requires.exp_row c.word-kind.ensures in
-    let f = fit-as w c.requires.fit (at_exp w R.element_read c.if-kind-eq-ELEMENT.true) in
+    let f = fit_as w c.requires.fit (at_exp w R.element_read c.if-kind-eq-ELEMENT.true) in
     ask w c.decreases c.requires.based 2 c.link-then-kind-eq-ELEMENT.ensures (at_exp w R.index c.if-kind-eq-ELEMENT.true) c.cleared-rest.ensures
     (fit_element (ρ w) c.args.code.now c.args.at (registers_of c.args.pool) (named w 1) (op w 2) f).1
 
 pub emit_load-requires-clause-nonzero : goal.emit_load-requires-clause-nonzero
 emit_load-requires-clause-nonzero t c =
     let w = known_exp c.requires.rows c.requires.exp_row c.word-kind.ensures in
-    let f = fit-as w c.requires.fit (at_exp w R.element_read c.if-kind-eq-ELEMENT.true) in
+    let f = fit_as w c.requires.fit (at_exp w R.element_read c.if-kind-eq-ELEMENT.true) in
     rw c.cleared-rest.ensures (fit_element (ρ w) c.args.code.now c.args.at (registers_of c.args.pool) (named w 1) (op w 2) f).2
 
 pub emit_load-requires-clause-room : goal.emit_load-requires-clause-room
 emit_load-requires-clause-room t c =
     let w = known_exp c.requires.rows c.requires.exp_row c.word-kind.ensures in
-    let f = fit-as w c.requires.fit (at_exp w R.element_read c.if-kind-eq-ELEMENT.true) in
+    let f = fit_as w c.requires.fit (at_exp w R.element_read c.if-kind-eq-ELEMENT.true) in
     let G = registers_of c.cleared-rest.result in
     let x = exp_laid (ρ w) w.ns c.link-then-kind-eq-ELEMENT.result (named w 2) c.link-then-kind-eq-ELEMENT.ensures c.lowest-t.result G c.emit_exp-p.ensures in
     room_element (ρ w) c.args.code.now c.args.at (registers_of c.args.pool) (op w 2) (past (ρ w) (op w 2) c.lowest-t.result G x) (named w 1) f
@@ -149,7 +149,7 @@ emit_exp-p-requires-2 t c =
     let w = known_exp c.requires.rows c.requires.exp_row c.word-kind.ensures in
     ask w c.decreases c.requires.based 1 c.link-2.ensures (at_exp w R.left c.if-kind-eq-VALUE.false c.if-kind-eq-IDENTIFIER.false c.if-kind-eq-ELEMENT.false)
     c.cleared-rest.ensures
-    (first-fits w c.requires.fit c.if-kind-eq-VALUE.false c.if-kind-eq-IDENTIFIER.false c.if-kind-eq-ELEMENT.false).1
+    (first_fits w c.requires.fit c.if-kind-eq-VALUE.false c.if-kind-eq-IDENTIFIER.false c.if-kind-eq-ELEMENT.false).1
 
 pub emit_not-requires : goal.emit_not-requires
 emit_not-requires t c =
@@ -157,7 +157,7 @@ emit_not-requires t c =
     let G = registers_of c.cleared-rest.result in
     let x = exp_laid (ρ w) w.ns c.link-2.result (named w 1) c.link-2.ensures c.lowest-t.result G c.emit_exp-p-2.ensures in
     room_not (ρ w) c.args.code.now c.args.at (registers_of c.args.pool) (op w 1) (past (ρ w) (op w 1) c.lowest-t.result G x)
-    (fit-as w c.requires.fit (at_exp w R.not_read c.if-kind-eq-VALUE.false c.if-kind-eq-IDENTIFIER.false c.if-kind-eq-ELEMENT.false c.if-kind-eq-NOT.true))
+    (fit_as w c.requires.fit (at_exp w R.not_read c.if-kind-eq-VALUE.false c.if-kind-eq-IDENTIFIER.false c.if-kind-eq-ELEMENT.false c.if-kind-eq-NOT.true))
 
 pub returns-then-kind-eq-NOT : goal.returns-then-kind-eq-NOT
 returns-then-kind-eq-NOT t c =
@@ -170,13 +170,13 @@ returns-then-kind-eq-NOT t c =
 pub lowest-u-requires : goal.lowest-u-requires
 lowest-u-requires t c =
     let w = known_exp c.requires.rows c.requires.exp_row c.word-kind.ensures in
-    let f = fit-as w c.requires.fit (at_exp w R.binary_read c.if-kind-eq-VALUE.false c.if-kind-eq-IDENTIFIER.false c.if-kind-eq-ELEMENT.false c.if-kind-eq-NOT.false) in
+    let f = fit_as w c.requires.fit (at_exp w R.binary_read c.if-kind-eq-VALUE.false c.if-kind-eq-IDENTIFIER.false c.if-kind-eq-ELEMENT.false c.if-kind-eq-NOT.false) in
     rw c.cleared-rest.ensures (fit_left (ρ w) c.args.code.now c.args.at (registers_of c.args.pool) (op_of (kind_of w.k)) (op w 1) (op w 2) f).2
 
 pub cleared-remaining-requires : goal.cleared-remaining-requires
 cleared-remaining-requires t c =
     let w = known_exp c.requires.rows c.requires.exp_row c.word-kind.ensures in
-    let f = fit-as w c.requires.fit (at_exp w R.binary_read c.if-kind-eq-VALUE.false c.if-kind-eq-IDENTIFIER.false c.if-kind-eq-ELEMENT.false c.if-kind-eq-NOT.false) in
+    let f = fit_as w c.requires.fit (at_exp w R.binary_read c.if-kind-eq-VALUE.false c.if-kind-eq-IDENTIFIER.false c.if-kind-eq-ELEMENT.false c.if-kind-eq-NOT.false) in
     rw c.cleared-rest.ensures (fit_left (ρ w) c.args.code.now c.args.at (registers_of c.args.pool) (op_of (kind_of w.k)) (op w 1) (op w 2) f).2
 
 -- by the number of registers, whichever they are
@@ -185,7 +185,7 @@ emit_exp-q-requires t c =
     let w = known_exp c.requires.rows c.requires.exp_row c.word-kind.ensures in
     let F = registers_of c.args.pool in
     let G = registers_of c.cleared-rest.result in
-    let f = fit-as w c.requires.fit (at_exp w R.binary_read c.if-kind-eq-VALUE.false c.if-kind-eq-IDENTIFIER.false c.if-kind-eq-ELEMENT.false c.if-kind-eq-NOT.false) in
+    let f = fit_as w c.requires.fit (at_exp w R.binary_read c.if-kind-eq-VALUE.false c.if-kind-eq-IDENTIFIER.false c.if-kind-eq-ELEMENT.false c.if-kind-eq-NOT.false) in
     let x = exp_laid (ρ w) w.ns c.link-2.result (named w 1) c.link-2.ensures c.lowest-t.result G c.emit_exp-p-2.ensures in
     let b = at_exp w R.right c.if-kind-eq-VALUE.false c.if-kind-eq-IDENTIFIER.false c.if-kind-eq-ELEMENT.false c.if-kind-eq-NOT.false in
     let fits = fit_right (ρ w) c.args.code.now c.args.at F (op w 1) (past (ρ w) (op w 1) c.lowest-t.result G x) (op_of (kind_of w.k)) (op w 2) f in
@@ -211,7 +211,7 @@ emit_operator-requires-clause-room t c =
     let w = known_exp c.requires.rows c.requires.exp_row c.word-kind.ensures in
     let G = registers_of c.cleared-rest.result in
     let H = registers_of c.cleared-remaining.result in
-    let f = fit-as w c.requires.fit (at_exp w R.binary_read c.if-kind-eq-VALUE.false c.if-kind-eq-IDENTIFIER.false c.if-kind-eq-ELEMENT.false c.if-kind-eq-NOT.false) in
+    let f = fit_as w c.requires.fit (at_exp w R.binary_read c.if-kind-eq-VALUE.false c.if-kind-eq-IDENTIFIER.false c.if-kind-eq-ELEMENT.false c.if-kind-eq-NOT.false) in
     let x = exp_laid (ρ w) w.ns c.link-2.result (named w 1) c.link-2.ensures c.lowest-t.result G c.emit_exp-p-2.ensures in
     let y = exp_laid (ρ w) w.ns c.link-3.result (named w 2) c.link-3.ensures c.lowest-u.result H c.emit_exp-q.ensures in
     room_operator (ρ w) c.args.code.now c.args.at (registers_of c.args.pool) (op w 1) (past (ρ w) (op w 1) c.lowest-t.result G x) (op_of (kind_of w.k)) (op w 2) f
