@@ -22,7 +22,7 @@ ghost use Rattle.compiler.specs.Inside.{Rows, Based, ComRow};
 use refusal::Verdict;
 
 // What a compilation answers: the instruction count, the cell count and the need; or a refusal's number and the number returned.
-#[derive(Drop)]
+#[derive(Clone, Copy)]
 pub enum CompileAnswer {
     Accepted(u32, u32, u32),
     Refused(u32, u32),

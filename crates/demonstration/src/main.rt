@@ -229,7 +229,7 @@ fn whole(rt: &impl Print, code: &[u32]) -> io::Result<()> {
 }
 
 // Whether a run's budget ran out.
-fn unfinished(answer: &RunAnswer) -> bool {
+fn unfinished(answer: RunAnswer) -> bool {
     match answer {
         RunAnswer::Ended(ending, steps) => match ending {
             Ending::Unfinished => true,
@@ -250,9 +250,8 @@ fn slice(
     registers: &mut [u32; 64],
 ) -> io::Result<bool> {
     let answer = machine::run_in_place(code, memory, place, registers, 5);
-    let more = unfinished(&answer);
     reason::ran(rt, answer, *place)?;
-    Ok(more)
+    Ok(unfinished(answer))
 }
 
 // The same run in slices, at most ten of them.

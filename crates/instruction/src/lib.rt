@@ -33,7 +33,7 @@ pub const MOST_WORDS: usize = 262144;
 
 // How an operation's three words are written: none of them; three registers; a register, a number and a register; a register and
 // the address of a load; the address of a store and a register; a label; two registers and a label.
-#[derive(Drop)]
+#[derive(Clone, Copy)]
 pub enum Form {
     Unknown,
     Bare,

@@ -20,14 +20,14 @@ const MOST: usize = instruction::MOST_WORDS / 4;
 const LONGEST: usize = 33;
 
 // The label that an instruction names, if it is a jump.
-#[derive(Drop)]
+#[derive(Clone, Copy)]
 pub enum Target {
     Nowhere,
     To(u32),
 }
 
 // The four words of an instruction.
-#[derive(Drop)]
+#[derive(Clone, Copy)]
 struct Words {
     op: u32,
     a: u32,
@@ -36,7 +36,7 @@ struct Words {
 }
 
 // What `list` answers: the bytes written, or a refusal's number and the number returned with it.
-#[derive(Drop)]
+#[derive(Clone, Copy)]
 pub enum ListAnswer {
     Listed(u32),
     Refused(u32, u32),

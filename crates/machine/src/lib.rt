@@ -11,14 +11,14 @@ ghost use Rattle.machine.specs.Run.{ran, run_of};
 ghost use Rattle.machine.specs.Entry.{shown, state_of, sizes_of, run_said, step_said, run_entry, step_entry};
 
 // The place and the 64 registers.
-#[derive(Drop)]
+#[derive(Clone, Copy)]
 pub struct State {
     pub place: u32,
     pub registers: [u32; 64],
 }
 
 // What one instruction leads to: on to the next place, to another one, a halt or a fault.
-#[derive(Drop)]
+#[derive(Clone, Copy)]
 enum Move {
     On,
     To(usize),
@@ -27,7 +27,7 @@ enum Move {
 }
 
 // How a run ends.
-#[derive(Drop)]
+#[derive(Clone, Copy)]
 pub enum Ending {
     Halted,
     Faulted(u32),
@@ -35,7 +35,7 @@ pub enum Ending {
 }
 
 // An ending, with the budget that is left and the place.
-#[derive(Drop)]
+#[derive(Clone, Copy)]
 struct Ended {
     ending: Ending,
     left: u32,
@@ -43,7 +43,7 @@ struct Ended {
 }
 
 // Whether the code and the memory are of sizes that are taken.
-#[derive(Drop)]
+#[derive(Clone, Copy)]
 enum Sizes {
     Fine,
     CodeWords,
@@ -51,7 +51,7 @@ enum Sizes {
 }
 
 // What a run answers: its ending and the steps taken, or a refusal.
-#[derive(Drop)]
+#[derive(Clone, Copy)]
 pub enum RunAnswer {
     Ended(Ending, u32),
     CodeRefused,
@@ -59,14 +59,14 @@ pub enum RunAnswer {
 }
 
 // A run's answer and the state that is left.
-#[derive(Drop)]
+#[derive(Clone, Copy)]
 pub struct Ran {
     pub answer: RunAnswer,
     pub state: State,
 }
 
 // What a single step answers.
-#[derive(Drop)]
+#[derive(Clone, Copy)]
 pub enum StepAnswer {
     Went,
     Halted,
@@ -76,7 +76,7 @@ pub enum StepAnswer {
 }
 
 // A step's answer and the state that is left.
-#[derive(Drop)]
+#[derive(Clone, Copy)]
 pub struct Stepped {
     pub answer: StepAnswer,
     pub state: State,

@@ -15,7 +15,7 @@ const LEAST: u32 = 2147483648;
 const LEAST_LONG: u64 = 18446744071562067968;
 
 // What an address leads to: a cell of the memory, or none.
-#[derive(Drop)]
+#[derive(Clone, Copy)]
 enum Found {
     At(usize),
     Nowhere,

@@ -2,7 +2,7 @@
 #![tactic(auto)]
 
 // Whether a check passes, or the refusal's number and the number returned with it.
-#[derive(Drop)]
+#[derive(Clone, Copy)]
 pub enum Verdict {
     Passes,
     Refuses(u32, u32),

@@ -64,7 +64,7 @@ pub const DECLARATION_LIMIT: usize = 256;
 pub const CELL_LIMIT: u32 = 65536;
 
 // The verdict on the declarations, the number of their cells, and the first cell of each.
-#[derive(Drop)]
+#[derive(Clone, Copy)]
 pub struct Layout {
     pub verdict: Verdict,
     pub cells: u32,
@@ -72,7 +72,7 @@ pub struct Layout {
 }
 
 // What a check of both tables answers: the number of cells, or the refusal's number and the number returned with it.
-#[derive(Drop)]
+#[derive(Clone, Copy)]
 pub enum CheckAnswer {
     Accepted(u32),
     Refused(u32, u32),
