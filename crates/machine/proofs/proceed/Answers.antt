@@ -1,6 +1,7 @@
 -- `proceed`: at each turn what is left to run, limit - place steps, is the whole run from its start.
-use Rattle.std.proofs.Common.{◌≡◌, suc, ◌+◌, ◌-◌, ◌<◌, refl, ap, ◌∙◌, add-one, arith}
+use Rattle.std.proofs.Common.{◌≡◌, ℕ, suc, ◌+◌, ◌-◌, ◌<◌, refl, ap, ◌∙◌, add-one, arith}
 use Rattle.machine.specs.Inside.{moved}
+use Rattle.machine.specs.Run.{run_of}
 use Rattle.machine.proofs.Cleared.{step_cleared}
 use Rattle.machine.proofs.Places.{step_to}
 use Rattle.machine.proofs.Runs.{run_go, run_halt, run_fault, run_out, step_outside}
@@ -42,7 +43,7 @@ turns-preserved c =
     let h = step_to _ _ _ _ _ _ _ _ d.ensures c.in-To.is in
     let t : l.place < l.limit = omega (arith, l.invariant.3, c.turns-test.true) in
     let i : q + (l.limit - l.place - 1) - q ≡ l.limit - l.place - 1 = omega arith in
-    (omega arith, omega (arith, l.invariant.1), omega (arith, h, c.requires.0, l.invariant.1, c.ranges.budget.fits), c.smaller-stop-in-To.ensures, d.auto.m ∙ l.invariant.4, rw i (run_go _ _ _ _ _ _ _ d.ensures (l.limit - l.place) q (omega (arith, t)) (ap (moved l.place) c.in-To.is) ∙ l.invariant.5), step_cleared _ _ _ _ _ _ _ d.ensures l.invariant.6)
+    (omega arith, omega (arith, l.invariant.1), omega (arith, h, c.requires.0, l.invariant.1, c.ranges.budget.fits), c.smaller-stop-in-To.ensures, d.auto.m ∙ l.invariant.4, ap (λ (n : ℕ). run_of c.args.code.now n q d.new.g d.new.m) i ∙ run_go _ _ _ _ _ _ _ d.ensures (l.limit - l.place) q (omega (arith, t)) (ap (moved l.place) c.in-To.is) ∙ l.invariant.5, step_cleared _ _ _ _ _ _ _ d.ensures l.invariant.6)
 
 pub stopped-requires : goal.stopped-requires
 stopped-requires c = omega (arith, c.turns.invariant.1, c.ranges.budget.fits)
