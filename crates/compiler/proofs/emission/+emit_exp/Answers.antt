@@ -210,12 +210,11 @@ pub emit_operator-requires-clause-room : goal.emit_operator-requires-clause-room
 emit_operator-requires-clause-room t c =
     let w = known_exp c.requires.rows c.requires.exp_row c.word-kind.ensures in
     let G = registers_of c.cleared-rest.result in
-    let H = registers_of c.cleared-remaining.result in
     let f = fit_as w c.requires.fit (at_exp w R.binary_read c.if-kind-eq-VALUE.false c.if-kind-eq-IDENTIFIER.false c.if-kind-eq-ELEMENT.false c.if-kind-eq-NOT.false) in
     let x = exp_laid (ρ w) w.ns c.link-2.result (named w 1) c.link-2.ensures c.lowest-t.result G c.emit_exp-p-2.ensures in
-    let y = exp_laid (ρ w) w.ns c.link-3.result (named w 2) c.link-3.ensures c.lowest-u.result H c.emit_exp-q.ensures in
+    let y = exp_laid (ρ w) w.ns c.link-3.result (named w 2) c.link-3.ensures c.lowest-u.result _ c.emit_exp-q.ensures in
     room_operator (ρ w) c.args.code.now c.args.at (registers_of c.args.pool) (op w 1) (past (ρ w) (op w 1) c.lowest-t.result G x) (op_of (kind_of w.k)) (op w 2) f
-    (past (ρ w) (op w 2) c.lowest-u.result H y)
+    (past (ρ w) (op w 2) c.lowest-u.result _ y)
 
 pub returns : goal.returns
 returns t c =
