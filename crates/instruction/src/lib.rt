@@ -46,6 +46,7 @@ pub enum Form {
 }
 
 // The form of an operation.
+#[tactic(auto, using(crate::proofs::Forms::no_operation), unfolding(crate::specs::Instruction::operation_of, crate::specs::Instruction::operations))]
 pub fn form_of(op: u32) -> Form
     ensures { result ≡ form_of (operation_of op) }
 {
@@ -67,6 +68,7 @@ pub fn form_of(op: u32) -> Form
 }
 
 // Whether code of so many words is taken.
+#[tactic(auto, unfolding(crate::specs::Instruction::taken))]
 pub fn taken(words: usize) -> bool
     ensures { result ≡ taken_of words }
 {
@@ -103,6 +105,7 @@ fn registers(a: u32, b: u32, c: u32) -> bool
 }
 
 // Whether the four words are an instruction. A word that may hold anything is passed on as 0.
+#[tactic(auto, using(crate::proofs::Forms::no_operation), unfolding(crate::specs::Instruction::formed, crate::specs::Instruction::operation_of, crate::specs::Instruction::operations))]
 pub fn formed(op: u32, a: u32, b: u32, c: u32) -> bool
     ensures { result ≡ formed_of (ins op a b c) }
 {
