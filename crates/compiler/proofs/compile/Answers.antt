@@ -1,3 +1,4 @@
+-- `compile`: refusals 1 and 2, then 3, and past them what the tables give.
 use mathlib.Core.Path.{◌≡◌, refl, sym, ap, ◌∙◌}
 use mathlib.Core.List.{List}
 use Prim.Native.Nat.{ℕ, ◌%◌}

@@ -1,3 +1,4 @@
+-- `compile_tables`: the layout's refusals, then the rows', and past them what is generated.
 use mathlib.Core.Path.{◌≡◌, sym, ap, ◌∙◌}
 use mathlib.Core.List.{List}
 use Prim.Native.Nat.{ℕ}

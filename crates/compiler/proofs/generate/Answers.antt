@@ -1,3 +1,4 @@
+-- `generate`: 11 and 12 by the need and the size, and else the program laid, with its halt.
 use Prim.Native.Nat.{◌+◌}
 use native.Mathlib.Omega.{arith}
 use lib.ListN.{length}

@@ -1,3 +1,4 @@
+-- `emit_either`: the four instructions of `and` and of `or`, one after the other.
 use mathlib.Core.Path.{ap}
 use Rattle.compiler.specs.Inside.{either_way}
 use Rattle.compiler.proofs.Emitting.{emitted_as, emitted_then}

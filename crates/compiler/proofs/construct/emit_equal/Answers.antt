@@ -1,3 +1,4 @@
+-- `emit_equal`: its four instructions, one after the other.
 use Rattle.compiler.proofs.Emitting.{emitted_as, emitted_then}
 use Rattle.compiler.proofs.construct.emit_equal.Goals as goal
 

@@ -1,3 +1,4 @@
+-- `emit_load`: the first cell into bx, and the load.
 use lib.ListN.{get_or}
 use Prim.Native.Nat.{ℕ}
 use mathlib.Core.List.{[], ◌∷◌}

@@ -1,3 +1,4 @@
+-- `emit_name`: a constant is put into the register, a variable loaded from its cell.
 use native.Mathlib.Omega.{arith}
 use Prim.Native.Nat.{ℕ}
 use mathlib.Core.List.{[], ◌∷◌}

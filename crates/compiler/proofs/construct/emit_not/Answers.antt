@@ -1,3 +1,4 @@
+-- `emit_not`: its three instructions, one after the other.
 use Rattle.compiler.proofs.Emitting.{emitted_as, emitted_then}
 use Rattle.compiler.proofs.construct.emit_not.Goals as goal
 

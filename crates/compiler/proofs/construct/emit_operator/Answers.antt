@@ -1,3 +1,4 @@
+-- `emit_operator`: each operator's own code, by its kind.
 use Prim.Native.Nat.{ℕ}
 use mathlib.Core.List.{List}
 use mathlib.Core.Path.{◌≡◌, sym, subst}

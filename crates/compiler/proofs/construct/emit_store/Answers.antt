@@ -1,3 +1,4 @@
+-- `emit_store`: the first cell into bx, and the store.
 use lib.ListN.{get_or}
 use Prim.Native.Nat.{ℕ}
 use mathlib.Core.List.{[], ◌∷◌}

@@ -1,3 +1,4 @@
+-- `put`: the four words of an instruction, laid where there is room for it.
 use Rattle.instruction.specs.Instruction.{encode, assemble}
 use lib.ListN.{length-set}
 use native.Mathlib.Numerals.{towards_suc}

@@ -1,86 +1,69 @@
-use mathlib.Core.Path.{◌≡◌, refl, sym, ap, ◌∙◌, subst}
+-- `emit_assign`: the value's code, and the store behind it.
+use mathlib.Core.Path.{◌≡◌, sym, ap, ◌∙◌, subst}
 use mathlib.Core.List.{List}
 use Prim.Native.Nat.{ℕ, ◌<◌}
 use lib.ListN.{length, get_or}
-use Rattle.rule.specs.Tree.{Binding, Exp, Com, base, assign}
-use Rattle.rule.specs.Table.{word, binding_of, exp_at, com_at}
+use Rattle.rule.specs.Tree.{Com, base, assign}
+use Rattle.rule.specs.Table.{com_at}
 use Rattle.compiler.specs.Pool.{registers_of, without}
-use Rattle.compiler.specs.Compile.{store_code, t_com}
-use Rattle.compiler.specs.Inside.{Rows, ExpRow, ComRow, Emitted, Fit, FitCom}
+use Rattle.compiler.specs.Compile.{store_code}
+use Rattle.compiler.specs.Inside.{ExpRow, ComRow, Fit, FitCom}
 use Rattle.compiler.proofs.Emitting.{emitted_as}
 use Rattle.compiler.proofs.Constructs.{past, assign_emitted}
 use Rattle.compiler.proofs.Fitting.{fit_assign, room_assign}
 use Rattle.compiler.proofs.Bindings.{base_variable}
 use Rattle.compiler.proofs.Calls.{based_at, exp_laid, exp_fits}
-use Rattle.compiler.proofs.Known.{KnownCom, known_com, at_com}
+use Rattle.compiler.proofs.Known.{Known, known_alone, reading, binding, named, exp_named, laid_com}
 use Rattle.compiler.proofs.Reading as R
 use Rattle.compiler.proofs.emission.emit_assign.Goals as goal
 
--- the row, by its own word 0
-abbrev of_row : {ds ns : List ℕ} → Rows ds ns → {i : ℕ} → ComRow ns i → KnownCom
-of_row {ds} {ns} all {i} row = known_com all row {k = word ns i 0} refl
+module _ (w : Known ComRow) where
+  module _ {l : List ℕ} {p : ℕ} {F : List ℕ} (f : FitCom (binding w) (com_at w.ns w.i) l p F) (kind : w.k ≡ 17) where
+    fits : FitCom (binding w) (assign (named w 1) (exp_named w 2)) l p F
+    fits = subst (λ (x : Com). FitCom (binding w) x l p F) (reading w R.assign_read kind) f
 
-module _ (w : KnownCom) where
-  abbrev ρ : ℕ → Binding
-  ρ = binding_of w.ds
-
-  -- the row that word j names, and the expression there
-  abbrev named : ℕ → ℕ
-  named j = word w.ns w.i j
-
-  abbrev op : ℕ → Exp
-  op j = exp_at w.ns (named j)
-
-  done : (F : List ℕ) {x : Com} → com_at w.ns w.i ≡ x → {l l' : List ℕ} {p q : ℕ} → Emitted l l' p q (t_com ρ x F p)
-      → Emitted l l' p q (t_com ρ (com_at w.ns w.i) F p)
-  done F e {p = p} y = emitted_as y (sym (ap (λ (x : Com). t_com ρ x F p) e))
-
-  module _ {l : List ℕ} {p : ℕ} {F : List ℕ} (f : FitCom ρ (com_at w.ns w.i) l p F) (kind : w.k ≡ 17) where
-    fits : FitCom ρ (assign (named 1) (op 2)) l p F
-    fits = subst (λ (x : Com). FitCom ρ x l p F) (at_com w R.assign_read kind) f
-
-    parts : (0 < length F) × Fit ρ (op 2) l p (without F) × (0 < length (without F))
-    parts = fit_assign ρ l p F (named 1) (op 2) fits
+    parts : (0 < length F) × Fit (binding w) (exp_named w 2) l p (without F) × (0 < length (without F))
+    parts = fit_assign (binding w) l p F (named w 1) (exp_named w 2) fits
 
 pub lowest-t-requires : goal.lowest-t-requires
-lowest-t-requires c = (parts (of_row c.requires.rows c.requires.com_row.0) c.requires.fit_com c.requires.com_row.1).0
+lowest-t-requires c = (parts (known_alone ComRow c.requires.rows c.requires.com_row.0) c.requires.fit_com c.requires.com_row.1).0
 
 pub cleared-rest-requires : goal.cleared-rest-requires
-cleared-rest-requires c = (parts (of_row c.requires.rows c.requires.com_row.0) c.requires.fit_com c.requires.com_row.1).0
+cleared-rest-requires c = (parts (known_alone ComRow c.requires.rows c.requires.com_row.0) c.requires.fit_com c.requires.com_row.1).0
 
 pub emit_exp-p-requires-clause-exp_row : goal.emit_exp-p-requires-clause-exp_row
 emit_exp-p-requires-clause-exp_row c =
-    let w = of_row c.requires.rows c.requires.com_row.0 in
-    subst (ExpRow w.ns) (sym c.link.ensures) (at_com w R.assign_value c.requires.com_row.1).row
+    let w = known_alone ComRow c.requires.rows c.requires.com_row.0 in
+    subst (ExpRow w.ns) (sym c.link.ensures) (reading w R.assign_value c.requires.com_row.1).row
 
 pub emit_exp-p-requires-clause-fit : goal.emit_exp-p-requires-clause-fit
 emit_exp-p-requires-clause-fit c =
-    let w = of_row c.requires.rows c.requires.com_row.0 in
-    exp_fits (ρ w) w.ns c.link.result (named w 2) c.link.ensures c.args.code.now c.args.at (registers_of c.cleared-rest.result) (without (registers_of c.args.pool))
+    let w = known_alone ComRow c.requires.rows c.requires.com_row.0 in
+    exp_fits (binding w) w.ns c.link.result (named w 2) c.link.ensures c.args.code.now c.args.at (registers_of c.cleared-rest.result) (without (registers_of c.args.pool))
     c.cleared-rest.ensures (parts w c.requires.fit_com c.requires.com_row.1).1
 
 pub emit_store-requires-clause-nonzero : goal.emit_store-requires-clause-nonzero
 emit_store-requires-clause-nonzero c =
-    rw c.cleared-rest.ensures (parts (of_row c.requires.rows c.requires.com_row.0) c.requires.fit_com c.requires.com_row.1).2
+    rw c.cleared-rest.ensures (parts (known_alone ComRow c.requires.rows c.requires.com_row.0) c.requires.fit_com c.requires.com_row.1).2
 
 pub emit_store-requires-clause-room : goal.emit_store-requires-clause-room
 emit_store-requires-clause-room c =
-    let w = of_row c.requires.rows c.requires.com_row.0 in
+    let w = known_alone ComRow c.requires.rows c.requires.com_row.0 in
     let G = registers_of c.cleared-rest.result in
-    let y = exp_laid (ρ w) w.ns c.link.result (named w 2) c.link.ensures c.lowest-t.result G c.emit_exp-p.ensures in
-    room_assign (ρ w) c.args.code.now c.args.at (registers_of c.args.pool) (named w 1) (op w 2) (fits w c.requires.fit_com c.requires.com_row.1)
-    (past (ρ w) (op w 2) c.lowest-t.result G y)
+    let y = exp_laid (binding w) w.ns c.link.result (named w 2) c.link.ensures c.lowest-t.result G c.emit_exp-p.ensures in
+    room_assign (binding w) c.args.code.now c.args.at (registers_of c.args.pool) (named w 1) (exp_named w 2) (fits w c.requires.fit_com c.requires.com_row.1)
+    (past (binding w) (exp_named w 2) c.lowest-t.result G y)
 
 pub returns : goal.returns
 returns c =
-    let w = of_row c.requires.rows c.requires.com_row.0 in
+    let w = known_alone ComRow c.requires.rows c.requires.com_row.0 in
     let F = registers_of c.args.pool in
     let G = registers_of c.cleared-rest.result in
     let bs = c.args.bases.now in
     let x = named w 1 in
-    let y = exp_laid (ρ w) w.ns c.link.result (named w 2) c.link.ensures c.lowest-t.result G c.emit_exp-p.ensures in
-    let n = at_com w R.assign_name c.requires.com_row.1 in
-    let cell : get_or bs c.link-2.result 0 ≡ base (ρ w x) =
+    let y = exp_laid (binding w) w.ns c.link.result (named w 2) c.link.ensures c.lowest-t.result G c.emit_exp-p.ensures in
+    let n = reading w R.assign_name c.requires.com_row.1 in
+    let cell : get_or bs c.link-2.result 0 ≡ base (binding w x) =
     ap (λ (m : ℕ). get_or bs m 0) c.link-2.ensures ∙ (based_at w.ds w.ns bs w.all c.requires.based x n.0).1 ∙ sym (base_variable w.ds x n.1) in
     let z = emitted_as c.emit_store.ensures (ap (λ (a : ℕ). store_code a 0 c.lowest-t.result G) cell) in
-    done w F (at_com w R.assign_read c.requires.com_row.1) (assign_emitted (ρ w) F c.args.at c.lowest-t.ensures c.cleared-rest.ensures (op w 2) y x z)
+    laid_com w F (reading w R.assign_read c.requires.com_row.1) (assign_emitted (binding w) F c.args.at c.lowest-t.ensures c.cleared-rest.ensures (exp_named w 2) y x z)

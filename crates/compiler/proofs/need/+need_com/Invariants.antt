@@ -1,3 +1,4 @@
+-- `need_com`: each construct's need is made of its parts'; the row falls.
 use Rattle.compiler.proofs.need.+need_com.Given as goal
 
 abbrev pub decreases-need_com : goal.decreases-need_com

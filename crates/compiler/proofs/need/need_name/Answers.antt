@@ -1,3 +1,4 @@
+-- `need_name`: a constant needs no register, what is stored one.
 use Rattle.compiler.proofs.Bindings.{binding_constant, stored}
 use Rattle.compiler.specs.Compile.{need_named}
 use mathlib.Core.Path.{sym, ap}

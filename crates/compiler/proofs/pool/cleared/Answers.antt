@@ -1,3 +1,4 @@
+-- `cleared`: without its lowest one the pool has the other registers.
 use Rattle.compiler.proofs.Pools.{without_lowest, tz_in, pool_pos, and_clear}
 use Rattle.compiler.specs.Pool.{registers_of}
 use lib.Pow.{pow-lt}

@@ -1,3 +1,4 @@
+-- `count`: the ones of the pool are its registers.
 use Rattle.compiler.proofs.Pools.{count_registers}
 use mathlib.Core.Path.{sym}
 use Rattle.compiler.proofs.pool.count.Goals as goal

@@ -1,3 +1,4 @@
+-- `size_exp`: each construct's size is the sum of its operands' and its own; the row falls.
 use Rattle.compiler.proofs.size.+size_exp.Given as goal
 
 abbrev pub decreases-size_exp : goal.decreases-size_exp

@@ -1,3 +1,4 @@
+-- `size_name`: a constant has one instruction, what is stored two.
 use Rattle.compiler.proofs.Bindings.{binding_constant, stored}
 use Rattle.compiler.specs.Compile.{size_named}
 use mathlib.Core.Path.{sym, ap}
