@@ -9,35 +9,33 @@ use lib.Dec.{eqb}
 use borrow.Author.Tests.{eq-eqb, ne_eqb}
 use Rattle.rule.specs.Tree.{Binding, constant, variable, array, base}
 use Rattle.rule.specs.Table.{sort, given, first_cell, binding_of}
-use Rattle.compiler.specs.Compile.{need_named, size_named, named_code, load_code}
+use Rattle.compiler.specs.Compile.{need_named, size_named}
 
 module _ (ds : List ℕ) (x : ℕ) where
   pub binding_constant : sort ds x ≡ 1 → binding_of ds x ≡ constant (given ds x)
   unfolding binding_of
   binding_constant e = simp (eq-eqb _ _ e)
 
-  pub base_variable : sort ds x ≡ 2 → base (binding_of ds x) ≡ first_cell ds x
-  unfolding binding_of
-  base_variable e = rw e
-
-  pub base_array : sort ds x ≡ 3 → base (binding_of ds x) ≡ first_cell ds x
-  unfolding binding_of
-  base_array e = rw e
-
-  -- what is no constant lies in memory
-  pub record Stored : Type 0 where
-    pub need : need_named (binding_of ds x) ≡ 1
-    pub size : size_named (binding_of ds x) ≡ 2
-    pub code : (r : ℕ) (F : List ℕ) → named_code (binding_of ds x) r F ≡ load_code (first_cell ds x) r 0 F
-
-  pub stored : (sort ds x ≡ 1 → ⊥) → Stored
+  -- what is no constant lies in memory: it needs a register, and has two instructions
+  stored : (sort ds x ≡ 1 → ⊥) → (need_named (binding_of ds x) ≡ 1) × (size_named (binding_of ds x) ≡ 2) × (base (binding_of ds x) ≡ first_cell ds x)
   unfolding binding_of
   stored f = go (eqb (sort ds x) 2) (simp (ne_eqb _ _ f))
     where
-      go : (b : Bool) → binding_of ds x ≡ cond b (variable (first_cell ds x)) (array (first_cell ds x) (given ds x)) → Stored
-      go true e = record { need = ap need_named e; size = ap size_named e; code = λ r F. ap (λ (s : Binding). named_code s r F) e }
-      go false e = record { need = ap need_named e; size = ap size_named e; code = λ r F. ap (λ (s : Binding). named_code s r F) e }
+      go : (b : Bool) → binding_of ds x ≡ cond b (variable (first_cell ds x)) (array (first_cell ds x) (given ds x))
+          → (need_named (binding_of ds x) ≡ 1) × (size_named (binding_of ds x) ≡ 2) × (base (binding_of ds x) ≡ first_cell ds x)
+      go true e = (ap need_named e, ap size_named e, ap base e)
+      go false e = (ap need_named e, ap size_named e, ap base e)
 
+  pub need_stored : (sort ds x ≡ 1 → ⊥) → need_named (binding_of ds x) ≡ 1
+  need_stored f = (stored f).0
+
+  pub size_stored : (sort ds x ≡ 1 → ⊥) → size_named (binding_of ds x) ≡ 2
+  size_stored f = (stored f).1
+
+  pub base_stored : (sort ds x ≡ 1 → ⊥) → base (binding_of ds x) ≡ first_cell ds x
+  base_stored f = (stored f).2
+
+-- a name needs one register at most
 pub need_named_lem : (x : Binding) → need_named x ≤ 1
 need_named_lem (constant v) = omega arith
 need_named_lem (variable a) = omega arith

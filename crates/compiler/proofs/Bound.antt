@@ -6,16 +6,16 @@ use mathlib.Core.List.{List}
 use Prim.Native.Nat.{ℕ, ◌+◌, ◌-◌, ◌*◌, ◌≤◌, ◌<◌}
 use native.Mathlib.Omega.{arith}
 use lib.ListN.{length}
-use Rattle.refusal.specs.declared.Verdict.TheVariants.{Passes}
-use Rattle.rule.specs.Tree.{Op, plus, minus, times, less, equal, both, either, Exp, Com, Binding, constant, variable, array}
+use Rattle.refusal.specs.Refusal.{Passes}
+use Rattle.rule.specs.Tree.{Op, plus, minus, times, less, equal, both, either, Binding, constant, variable, array}
 use Rattle.rule.specs.Kind.{Kind, unknown, a_value, an_ident, an_element, a_binary, a_not, a_skip, an_assign, an_assign_at, a_sequence, an_if, a_while, words_of, first, second, third, is_expression, is_command}
 use Rattle.rule.specs.Table.{node_rows, word, kind_at, exp_of, com_of, exp_at, com_at}
 use Rattle.rule.specs.Check.{rows, used_once}
 use Rattle.rule.proofs.Count.{word_sum, row_sum}
 use Rattle.rule.proofs.Clean.{RowInOrder, program_bound}
 use Rattle.compiler.specs.Compile.{size_named, size_op, size_exp, size_com}
-use Rattle.compiler.specs.Inside.{Rows, ExpRow, ComRow}
-use Rattle.compiler.proofs.Reading.{low, reads, under, low_com, reads_com, under_com}
+use Rattle.compiler.specs.Inside.{Rows}
+use Rattle.compiler.proofs.Rows.{exp_read, com_read}
 
 named_small : (x : Binding) → size_named x ≤ 2
 named_small (constant v) = omega arith
@@ -66,33 +66,17 @@ module _ (ρ : ℕ → Binding) (ns : List ℕ) where
         + (word_sum row_size (first (words_of x)) (word ns i 1)
         + (word_sum row_size (second (words_of x)) (word ns i 2) + word_sum row_size (third (words_of x)) (word ns i 3)))
 
-    -- an expression's row: its own size, and that of the expression that word j names
-    module _ (x : Kind) (e : kind_at ns i ≡ x) (s : is_expression x ≡ true) where
-      exp_row : ExpRow ns i
-      exp_row = record { there = there; sort = ap is_expression e ∙ s }
+    -- an expression's row and a command's, of the kind x: their own sizes, by what their words name
+    own : (x : Kind) → kind_at ns i ≡ x → is_expression x ≡ true → row_size i ≡ size_exp ρ (exp_of (exp_at ns) x (word ns i 1) (word ns i 2))
+    own x e s =
+        exp_size i (ap is_expression e ∙ s)
+        ∙ ap (size_exp ρ) (exp_read ds ns i all there ∙ ap (λ (y : Kind). exp_of (exp_at ns) y (word ns i 1) (word ns i 2)) e)
 
-      abbrev E : ℕ → Exp
-      E = low ds ns all i exp_row (word ns i 0) refl
-
-      own : row_size i ≡ size_exp ρ (exp_of E x (word ns i 1) (word ns i 2))
-      own = exp_size i (ap is_expression e ∙ s) ∙ ap (size_exp ρ) (reads ds ns all i exp_row (word ns i 0) refl x e)
-
-      operand : (j : ℕ) → word ns i j < i → is_expression (kind_at ns (word ns i j)) ≡ true → size_exp ρ (E (word ns i j)) ≡ row_size (word ns i j)
-      operand j lt q = ap (size_exp ρ) (under ds ns all i exp_row (word ns i 0) refl (word ns i j) lt) ∙ sym (exp_size (word ns i j) q)
-
-    -- a command's row
-    module _ (x : Kind) (e : kind_at ns i ≡ x) (s : is_command x ≡ true) where
-      com_row : ComRow ns i
-      com_row = record { there = there; sort = ap is_command e ∙ s }
-
-      abbrev C : ℕ → Com
-      C = low_com ds ns all i com_row (word ns i 0) refl
-
-      own_com : row_size i ≡ size_com ρ (com_of (exp_at ns) C x (word ns i 1) (word ns i 2) (word ns i 3))
-      own_com = com_size i (ap is_command e ∙ s) ∙ ap (size_com ρ) (reads_com ds ns all i com_row (word ns i 0) refl x e)
-
-      part : (j : ℕ) → word ns i j < i → is_command (kind_at ns (word ns i j)) ≡ true → size_com ρ (C (word ns i j)) ≡ row_size (word ns i j)
-      part j lt q = ap (size_com ρ) (under_com ds ns all i com_row (word ns i 0) refl (word ns i j) lt) ∙ sym (com_size (word ns i j) q)
+    own_com : (x : Kind) → kind_at ns i ≡ x → is_command x ≡ true
+        → row_size i ≡ size_com ρ (com_of (exp_at ns) (com_at ns) x (word ns i 1) (word ns i 2) (word ns i 3))
+    own_com x e s =
+        com_size i (ap is_command e ∙ s)
+        ∙ ap (size_com ρ) (com_read ds ns i all there ∙ ap (λ (y : Kind). com_of (exp_at ns) (com_at ns) y (word ns i 1) (word ns i 2) (word ns i 3)) e)
 
     step : (x : Kind) → kind_at ns i ≡ x → RowInOrder ds ns i (words_of x) → Small x
     unfolding size_exp size_com
@@ -101,17 +85,17 @@ module _ (ρ : ℕ → Binding) (ns : List ℕ) where
     step an_ident e r = let h = own an_ident e refl in let n = named_small (ρ (word ns i 1)) in omega arith
     step an_element e r =
         let h = own an_element e refl in
-        let a = operand an_element e refl 2 r.1.0 r.1.1 in
+        let a = exp_size (word ns i 2) r.1.1 in
         omega arith
     step (a_binary op) e r =
         let h = own (a_binary op) e refl in
-        let a = operand (a_binary op) e refl 1 r.0.0 r.0.1 in
-        let b = operand (a_binary op) e refl 2 r.1.0 r.1.1 in
+        let a = exp_size (word ns i 1) r.0.1 in
+        let b = exp_size (word ns i 2) r.1.1 in
         let n = operator_small op in
         omega arith
     step a_not e r =
         let h = own a_not e refl in
-        let a = operand a_not e refl 1 r.0.0 r.0.1 in
+        let a = exp_size (word ns i 1) r.0.1 in
         omega arith
     step a_skip e r = let h = own_com a_skip e refl in omega arith
     step an_assign e r =
@@ -125,19 +109,19 @@ module _ (ρ : ℕ → Binding) (ns : List ℕ) where
         omega arith
     step a_sequence e r =
         let h = own_com a_sequence e refl in
-        let a = part a_sequence e refl 1 r.0.0 r.0.1 in
-        let b = part a_sequence e refl 2 r.1.0 r.1.1 in
+        let a = com_size (word ns i 1) r.0.1 in
+        let b = com_size (word ns i 2) r.1.1 in
         omega arith
     step an_if e r =
         let h = own_com an_if e refl in
         let a = exp_size (word ns i 1) r.0.1 in
-        let b = part an_if e refl 2 r.1.0 r.1.1 in
-        let d = part an_if e refl 3 r.2.0 r.2.1 in
+        let b = com_size (word ns i 2) r.1.1 in
+        let d = com_size (word ns i 3) r.2.1 in
         omega arith
     step a_while e r =
         let h = own_com a_while e refl in
         let a = exp_size (word ns i 1) r.0.1 in
-        let b = part a_while e refl 2 r.1.0 r.1.1 in
+        let b = com_size (word ns i 2) r.1.1 in
         omega arith
 
     row_small : row_size i ≤ 4 + row_sum row_size ns i

@@ -1,13 +1,9 @@
-pub mod Numbers
-pub mod Reading
-pub mod Known
+pub mod Rows
 pub mod Pools
 pub mod Sizes
 pub mod Emitting
-pub mod Constructs
-pub mod Fitting
+pub mod Emits
 pub mod Bindings
-pub mod Calls
 pub mod Bound
 pub mod Answers
 pub mod Ready

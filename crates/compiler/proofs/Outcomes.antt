@@ -1,26 +1,31 @@
 -- The promise of `compile` leaves room for one outcome: two results that meet it are equal, for the answer and every word of the buffer.
 -- Assumes nothing.
-use mathlib.Core.Path.{◌≡◌, refl, sym, ap, ◌∙◌}
-use mathlib.Core.List.{List}
-use Prim.Native.Nat.{ℕ}
-use lib.ListN.{length}
-use Rattle.compiler.specs.declared.CompileAnswer.{CompileAnswer}
-use Rattle.compiler.specs.declared.CompileAnswer.TheVariants.{Accepted, Refused}
+use Rattle.std.proofs.Common.{◌≡◌, sym, ap, ◌∙◌, ℕ, List, length, Result}
+use Rattle.std.specs.Prelude.{Ok, Err}
+use Rattle.refusal.specs.declared.Refusal.{Refusal}
+use Rattle.refusal.specs.Refusal.{number_of, value_of}
+use Rattle.refusal.proofs.Outcomes.{one_refusal}
+use Rattle.compiler.specs.declared.Accepted.{Accepted}
 use Rattle.compiler.specs.Answer.{Said, accepted, refused, compile_said, compiled, leaves}
 
-abbrev answered : Said → CompileAnswer
-answered (accepted n c k) = Accepted n c k
-answered (refused n v) = Refused n v
+abbrev accepted_of : Said → Accepted
+accepted_of (accepted n c k) = record { instructions = n; cells = c; need = k }
+accepted_of (refused n v) = record { instructions = 0; cells = 0; need = 0 }
 
-answered_back : (a : CompileAnswer) → answered (compile_said a) ≡ a
-answered_back (Accepted n c k) = refl
-answered_back (Refused n v) = refl
+number_said : (r s : Refusal) → refused (number_of r) (value_of r) ≡ refused (number_of s) (value_of s) → number_of r ≡ number_of s
+number_said r s e = cc
 
-pub one_answer : (a b : CompileAnswer) → compile_said a ≡ compile_said b → a ≡ b
-one_answer a b e = sym (answered_back a) ∙ ap answered e ∙ answered_back b
+value_said : (r s : Refusal) → refused (number_of r) (value_of r) ≡ refused (number_of s) (value_of s) → value_of r ≡ value_of s
+value_said r s e = cc
+
+pub one_answer : (a b : Result Accepted Refusal) → compile_said a ≡ compile_said b → a ≡ b
+one_answer (Ok a) (Ok b) e = ap (λ (x : Said). Ok (accepted_of x)) e
+one_answer (Ok a) (Err s) e = cc
+one_answer (Err r) (Ok b) e = cc
+one_answer (Err r) (Err s) e = ap Err (one_refusal r s (number_said r s e) (value_said r s e))
 
 -- l and m are the buffers left
-pub one_compile : (ds ns : List ℕ) (pool : ℕ) (code : List ℕ) (a b : CompileAnswer) (l m : List ℕ)
+pub one_compile : (ds ns : List ℕ) (pool : ℕ) (code : List ℕ) (a b : Result Accepted Refusal) (l m : List ℕ)
     → compile_said a ≡ compiled ds ns pool (length code) → l ≡ leaves ds ns pool code
     → compile_said b ≡ compiled ds ns pool (length code) → m ≡ leaves ds ns pool code → (a ≡ b) × (l ≡ m)
 one_compile ds ns pool code a b l m p q r s = (one_answer a b (p ∙ sym r), q ∙ sym s)

@@ -1,15 +1,14 @@
 -- The pool's number and its list of registers: trailing zeros give the fresh register, clearing that bit what is left, and ones the count.
 -- Assumes nothing.
 use mathlib.Core.Path.{◌≡◌, refl, sym, ap, ◌∙◌}
-use mathlib.Core.List.{◌∷◌}
-use Prim.Native.Nat.{ℕ, zero, suc, ◌+◌, ◌-◌, ◌*◌, ◌/◌, ◌%◌, ◌^◌, ◌≤◌, ◌<◌, min}
-use native.Mathlib.Nat.{mod-eq_of_lt, pow-suc, add-zero, add-suc, suc-add, zero-add}
+use mathlib.Core.List.{List, [], ◌∷◌}
+use Prim.Native.Nat.{ℕ, zero, suc, ◌+◌, ◌-◌, ◌*◌, ◌/◌, ◌%◌, ◌^◌, ◌<◌, min}
+use native.Mathlib.Nat.{pow-suc, add-zero, add-suc, suc-add, zero-add}
 use native.Mathlib.Omega.{arith}
 use lib.ListN.{length}
 use lib.Arith.{lt-one}
 use lib.Count.{count_trailing_zeros, under, ones, ones_step}
-use lib.Bits.{bit_and, and_step, and_mask}
-use lib.Pow.{pow-lt, pow_pos}
+use lib.Bits.{bit_and, and_step, and_self}
 use Rattle.compiler.specs.Pool.{cons_if, registers_from, registers_of, fresh, without}
 
 half_lt : (d n : ℕ) → n < 2 ^ suc d → n / 2 < 2 ^ d
@@ -44,19 +43,31 @@ counted (suc d) k n h = go (n % 2) refl (counted d (suc k) (n / 2) (half_lt d n 
     go (suc zero) e ih = omega arith
     go (suc (suc r)) e ih = absurd (omega arith)
 
-tz_fits : (d n : ℕ) → 0 < n → n < 2 ^ d → (count_trailing_zeros d n < d) × (2 ^ count_trailing_zeros d n ≤ n)
+-- Clearing the lowest set bit
+
+even_step : (n x t m : ℕ) → n % 2 ≡ 0 → x ≡ n / 2 - t → x * 2 + min (n % 2) m ≡ n - t * 2
+even_step n x t m e i = omega arith
+
+odd_step : (n x m : ℕ) → n % 2 ≡ 1 → x ≡ n / 2 → m ≡ 0 → x * 2 + min (n % 2) m ≡ n - 1
+odd_step n x m e i z = omega arith
+
+-- n & (n - 1), at d digits
+and_below : (d n : ℕ) → 0 < n → n < 2 ^ d → bit_and n (n - 1) ≡ n - 2 ^ count_trailing_zeros d n
 unfolding count_trailing_zeros
-tz_fits zero n p h = let z : n ≡ 0 = lt-one h in absurd (omega arith)
-tz_fits (suc d) n p h = go (n % 2) refl (λ q. tz_fits d (n / 2) q (half_lt d n h))
+and_below zero n p h = let z : n ≡ 0 = lt-one h in absurd (omega arith)
+and_below (suc d) n p h = go (n % 2) refl (λ q. and_below d (n / 2) q (half_lt d n h))
   where
-    go : (r : ℕ) → n % 2 ≡ r → (0 < n / 2 → (count_trailing_zeros d (n / 2) < d) × (2 ^ count_trailing_zeros d (n / 2) ≤ n / 2))
-        → (under r (count_trailing_zeros d (n / 2)) < suc d) × (2 ^ under r (count_trailing_zeros d (n / 2)) ≤ n)
+    go : (r : ℕ) → n % 2 ≡ r → (0 < n / 2 → bit_and (n / 2) (n / 2 - 1) ≡ n / 2 - 2 ^ count_trailing_zeros d (n / 2))
+        → bit_and n (n - 1) ≡ n - 2 ^ under r (count_trailing_zeros d (n / 2))
     go zero e ih =
         let t = count_trailing_zeros d (n / 2) in
-        let w = pow-suc 2 t in
-        let i = ih (omega arith) in
-        omega arith
-    go (suc zero) e ih = omega arith
+        let half : (n - 1) / 2 ≡ n / 2 - 1 = omega arith in
+        let i = ap (bit_and (n / 2)) half ∙ ih (omega arith) in
+        and_step n (n - 1) ∙ even_step n (bit_and (n / 2) ((n - 1) / 2)) (2 ^ t) ((n - 1) % 2) e i ∙ ap (λ (k : ℕ). n - k) (sym (pow-suc 2 t))
+    go (suc zero) e ih =
+        let half : (n - 1) / 2 ≡ n / 2 = omega arith in
+        let i = ap (bit_and (n / 2)) half ∙ and_self (n / 2) in
+        and_step n (n - 1) ∙ odd_step n (bit_and (n / 2) ((n - 1) / 2)) ((n - 1) % 2) e i (omega arith)
     go (suc (suc r)) e ih = absurd (omega arith)
 
 module _ (n : ℕ) (fits : n < 2 ^ 64) where
@@ -74,9 +85,6 @@ module _ (n : ℕ) (fits : n < 2 ^ 64) where
         go zero e = let z : length (registers_of n) ≡ 0 = ap (λ (k : ℕ). length (registers_of k)) e in absurd (omega arith)
         go (suc m) e = omega arith
 
-    pub tz_in : (count_trailing_zeros 64 n < 64) × (2 ^ count_trailing_zeros 64 n ≤ n)
-    tz_in = tz_fits 64 n pool_pos fits
-
     pub registers_cons : registers_of n ≡ count_trailing_zeros 64 n ∷ registers_of (n - 2 ^ count_trailing_zeros 64 n)
     unfolding registers_of
     registers_cons = lowest_first 64 0 n pool_pos fits ∙ ap (λ (m : ℕ). m ∷ registers_of (n - 2 ^ count_trailing_zeros 64 n)) (zero-add (count_trailing_zeros 64 n))
@@ -84,43 +92,9 @@ module _ (n : ℕ) (fits : n < 2 ^ 64) where
     pub fresh_is_lowest : count_trailing_zeros 64 n ≡ fresh (registers_of n)
     fresh_is_lowest = sym (ap fresh registers_cons)
 
-    pub without_lowest : registers_of (n - 2 ^ count_trailing_zeros 64 n) ≡ without (registers_of n)
-    without_lowest = sym (ap without registers_cons)
+    pub without_lowest : registers_of (bit_and n (n - 1)) ≡ without (registers_of n)
+    without_lowest = ap registers_of (and_below 64 n pool_pos fits) ∙ sym (ap without registers_cons)
 
--- Clearing a bit by a mask
-
-even_step : (n x t m : ℕ) → n % 2 ≡ 0 → x ≡ n / 2 - t → x * 2 + min (n % 2) m ≡ n - t * 2
-even_step n x t m e i = omega arith
-
-odd_step : (n x m : ℕ) → n % 2 ≡ 1 → x ≡ n / 2 → m ≡ 0 → x * 2 + min (n % 2) m ≡ n - 1
-odd_step n x m e i z = omega arith
-
-even_mask : (a b : ℕ) → b ≡ a * 2 → 0 < a → (b - 1 - 1) % 2 ≡ 0
-even_mask a b e h = omega arith
-
--- n & !(1 << t), at d digits, where t is the lowest set bit
-pub and_clear : (d n : ℕ) → 0 < n → n < 2 ^ d → bit_and n (2 ^ d - 1 - 2 ^ count_trailing_zeros d n) ≡ n - 2 ^ count_trailing_zeros d n
-unfolding count_trailing_zeros
-and_clear zero n p h = let z : n ≡ 0 = lt-one h in absurd (omega arith)
-and_clear (suc d) n p h = go (n % 2) refl (λ q. and_clear d (n / 2) q (half_lt d n h))
-  where
-    go : (r : ℕ) → n % 2 ≡ r → (0 < n / 2 → bit_and (n / 2) (2 ^ d - 1 - 2 ^ count_trailing_zeros d (n / 2)) ≡ n / 2 - 2 ^ count_trailing_zeros d (n / 2))
-        → bit_and n (2 ^ suc d - 1 - 2 ^ under r (count_trailing_zeros d (n / 2))) ≡ n - 2 ^ under r (count_trailing_zeros d (n / 2))
-    go zero e ih =
-        let t = count_trailing_zeros d (n / 2) in
-        let f = tz_fits d (n / 2) (omega arith) (half_lt d n h) in
-        let w = pow-suc 2 t in
-        let v = pow-suc 2 d in
-        let g = pow-lt f.0 in
-        let m = 2 ^ suc d - 1 - 2 ^ suc t in
-        let half : m / 2 ≡ 2 ^ d - 1 - 2 ^ t = omega arith in
-        let i = ap (bit_and (n / 2)) half ∙ ih (omega arith) in
-        and_step n m ∙ even_step n (bit_and (n / 2) (m / 2)) (2 ^ t) (m % 2) e i ∙ ap (λ (k : ℕ). n - k) (sym w)
-    go (suc zero) e ih =
-        let v = pow-suc 2 d in
-        let g = pow_pos d in
-        let m = 2 ^ suc d - 1 - 2 ^ 0 in
-        let half : m / 2 ≡ 2 ^ d - 1 = omega arith in
-        let i = ap (bit_and (n / 2)) half ∙ and_mask (n / 2) d ∙ mod-eq_of_lt (half_lt d n h) in
-        and_step n m ∙ odd_step n (bit_and (n / 2) (m / 2)) (m % 2) e i (even_mask (2 ^ d) (2 ^ suc d) v g)
-    go (suc (suc r)) e ih = absurd (omega arith)
+pub length_without : (F : List ℕ) → length (without F) ≡ length F - 1
+length_without [] = refl
+length_without (x ∷ F) = omega arith

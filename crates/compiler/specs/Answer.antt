@@ -1,13 +1,11 @@
 -- What `compile` answers and what it leaves in the code buffer. 01-scope.md, "Numbered refusals, in order".
-use Rattle.std.specs.Prelude.{cond, List, ℕ, ◌+◌, ◌*◌, ◌%◌, eqb, leb, length}
+use Rattle.std.specs.Prelude.{cond, List, ℕ, ◌+◌, ◌*◌, ◌%◌, eqb, leb, length, Result, Ok, Err}
 use Rattle.instruction.specs.Instruction.{assemble}
-use Rattle.refusal.specs.declared.Verdict.{Verdict}
-use Rattle.refusal.specs.declared.Verdict.TheVariants.{Passes, Refuses}
+use Rattle.refusal.specs.declared.Refusal.{Refusal}
 use Rattle.rule.specs.Table.{first_cell, binding_of, declaration_rows, program}
-use Rattle.refusal.specs.Refusal.{◌and_then◌, laid_over}
+use Rattle.refusal.specs.Refusal.{Verdict, Passes, Refuses, number_of, value_of, ◌and_then◌, laid_over}
 use Rattle.rule.specs.Check.{node_words, declaration_words, declarations, rows, used_once}
-use Rattle.compiler.specs.declared.CompileAnswer.{CompileAnswer}
-use Rattle.compiler.specs.declared.CompileAnswer.TheVariants.{Accepted, Refused}
+use Rattle.compiler.specs.declared.Accepted.{Accepted}
 use Rattle.compiler.specs.Pool.{registers_of}
 use Rattle.compiler.specs.Compile.{need_com, size_com, t_prog}
 
@@ -16,9 +14,10 @@ pub data Said : Type 0 where
   accepted : ℕ → ℕ → ℕ → Said
   refused : ℕ → ℕ → Said
 
-abbrev pub compile_said : CompileAnswer → Said
-compile_said (Accepted n c k) = accepted n c k
-compile_said (Refused n v) = refused n v
+-- "If an answer is an enum, a definition gives this paper's number and values for each of its cases. The promises use that definition."
+abbrev pub compile_said : Result Accepted Refusal → Said
+compile_said (Ok a) = accepted a.instructions a.cells a.need
+compile_said (Err r) = refused (number_of r) (value_of r)
 
 -- 3: "pool bit 0 set"
 unfoldable pub pool_bit : ℕ → Verdict
@@ -38,6 +37,7 @@ said_as n c k Passes = accepted n c k
 said_as n c k (Refuses m v) = refused m v
 
 module _ (ds ns : List ℕ) where
+  -- the program's need, its instructions with the halt, and the cells of its declarations
   abbrev pub need : ℕ
   need = need_com (binding_of ds) (program ns)
 
@@ -46,6 +46,10 @@ module _ (ds ns : List ℕ) where
 
   abbrev pub cells : ℕ
   cells = first_cell ds (declaration_rows ds)
+
+  -- refusals 11 and 12, which come last
+  abbrev pub rest : ℕ → ℕ → Verdict
+  rest pool words = enough need (length (registers_of pool)) and_then room_for instructions words
 
   -- refusals 1 to 12 in their order
   unfoldable pub verdict : ℕ → ℕ → Verdict
@@ -59,6 +63,7 @@ module _ (ds ns : List ℕ) where
       and_then enough need (length (registers_of pool))
       and_then room_for instructions words
 
+  -- what `compile` says of them
   unfoldable pub compiled : ℕ → ℕ → Said
   compiled pool words = said_as instructions cells need (verdict pool words)
 

@@ -1,33 +1,14 @@
 -- What the compiler's inner functions ask of each other. No promise of `compile` rests on this page.
-use Rattle.std.specs.Prelude.{◌≡◌, true, List, [], ◌∷◌, ℕ, ◌+◌, ◌*◌, ◌<◌, ◌≤◌, length, get_or}
+use Rattle.std.specs.Prelude.{◌≡◌, true, List, [], ◌∷◌, ℕ, zero, suc, ◌+◌, ◌*◌, ◌<◌, ◌≤◌, length, get_or}
+use Rattle.std.proofs.Props.{props}
 use Rattle.std.proofs.lemmas.List.Edits.{sets}
 use Rattle.instruction.specs.Instruction.{Instruction, ins, addi, assemble}
 use Rattle.rule.specs.Tree.{Exp, Com, Binding}
-use Rattle.rule.specs.Kind.{Kind, kind_of, words_of, is_expression, is_command}
-use Rattle.rule.specs.Tree.{Op, plus}
-use Rattle.rule.specs.Kind as K
+use Rattle.rule.specs.Kind.{Class, Words, first, second, third, none, unused, number, scalar, variable_name, array_name, expression, command, words_of, is_expression, is_command}
 use Rattle.rule.specs.Table.{row_limit, declaration_limit, declaration_rows, first_cell, kind_at}
-use Rattle.rule.proofs.Clean.{RowInOrder}
+use Rattle.rule.proofs.Clean.{InOrder, RowInOrder}
+use Rattle.compiler.specs.declared.code.Code.{Code}
 use Rattle.compiler.specs.Compile.{need_exp, size_exp, need_com, size_com}
-
--- the operator of a kind
-abbrev pub op_of : Kind → Op
-op_of K.unknown = plus
-op_of K.a_value = plus
-op_of K.an_ident = plus
-op_of K.an_element = plus
-op_of K.a_not = plus
-op_of K.a_skip = plus
-op_of K.an_assign = plus
-op_of K.an_assign_at = plus
-op_of K.a_sequence = plus
-op_of K.an_if = plus
-op_of K.a_while = plus
-op_of (K.a_binary o) = o
-
--- k is the number of a binary
-abbrev pub Binary : ℕ → Type 0
-Binary k = kind_of k ≡ K.a_binary (op_of (kind_of k))
 
 -- r is x, and then y unless t or u, branching on $0, sends control to the end
 abbrev pub either_way : ℕ → ℕ → ℕ → ℕ → ℕ → ℕ → ℕ → List Instruction
@@ -39,9 +20,26 @@ pub record Rows (ds ns : List ℕ) : Type 0 where
   pub short : length ns ≤ row_limit * 4
   pub ok : (i : ℕ) → i * 4 + 3 < length ns → RowInOrder ds ns i (words_of (kind_at ns i))
 
+-- a word is in order in one way at most, and so are the rows: the tables carry it
+InOrder-prop : (ds ns : List ℕ) (i : ℕ) (c : Class) (w : ℕ) → IsProp (InOrder ds ns i c w)
+InOrder-prop ds ns i none w = hlevel props
+InOrder-prop ds ns i unused w = hlevel props
+InOrder-prop ds ns i number w = hlevel props
+InOrder-prop ds ns i scalar w = hlevel props
+InOrder-prop ds ns i variable_name w = hlevel props
+InOrder-prop ds ns i array_name w = hlevel props
+InOrder-prop ds ns i expression w = hlevel props
+InOrder-prop ds ns i command w = hlevel props
+
+pub Rows-prop : (ds ns : List ℕ) → IsProp (Rows ds ns)
+Rows-prop ds ns = hlevel (props, InOrder-prop)
+
 -- the array of bases holds each declaration's first cell
 pub record Based (ds bases : List ℕ) : Type 0 where
   pub based : (x : ℕ) → x < declaration_rows ds → get_or bases x 0 ≡ first_cell ds x
+
+pub Based-prop : (ds bases : List ℕ) → IsProp (Based ds bases)
+Based-prop ds bases = hlevel props
 
 -- row i is there, and of its sort
 pub record ExpRow (ns : List ℕ) (i : ℕ) : Type 0 where
@@ -52,25 +50,46 @@ pub record ComRow (ns : List ℕ) (i : ℕ) : Type 0 where
   pub there : i * 4 + 3 < length ns
   pub sort : is_command (kind_at ns i) ≡ true
 
+-- what word k of a row is, from what its three words are
+abbrev pub class_of : Words → ℕ → Class
+class_of w zero = none
+class_of w (suc zero) = first w
+class_of w (suc (suc zero)) = second w
+class_of w (suc (suc (suc zero))) = third w
+class_of w (suc (suc (suc (suc k)))) = none
+
+-- what word k of row i is, by the row's kind
+abbrev pub class_at : List ℕ → ℕ → ℕ → Class
+class_at ns i = class_of (words_of (kind_at ns i))
+
 -- room in the buffer l for n instructions from p on, whose numbers are words
 pub record Room (l : List ℕ) (p n : ℕ) : Type 0 where
   pub fits : (p + n) * 4 ≤ length l
   pub small : p + n < 4294967296
 
 -- the buffer l with the instructions c laid from p on
-abbrev pub put : List ℕ → ℕ → List Instruction → List ℕ
+unfoldable pub put : List ℕ → ℕ → List Instruction → List ℕ
 put l p c = sets l (p * 4) (assemble c)
 
 -- l' is l with the instructions c from p on, and q is the place after the last of them
 pub record Emitted (l l' : List ℕ) (p q : ℕ) (c : List Instruction) : Type 0 where
   pub next : q ≡ p + length c
   pub code : l' ≡ put l p c
+  pub kept : length l' ≡ length l
+
+-- room for n more instructions
+abbrev pub HasRoom : Code → ℕ → Type 0
+HasRoom k n = Room k.words.now k.at n
+
+-- k' is the code k with the instructions c laid where it goes on
+abbrev pub Lays : Code → Code → List Instruction → Type 0
+Lays k k' c = Emitted k.words.now k'.words.now k.at k'.at c
 
 -- registers and room enough
-pub record Fit (ρ : ℕ → Binding) (e : Exp) (l : List ℕ) (p : ℕ) (F : List ℕ) : Type 0 where
+pub record Fit (ρ : ℕ → Binding) (e : Exp) (k : Code) (F : List ℕ) : Type 0 where
   pub need : need_exp ρ e ≤ length F
-  pub room : Room l p (size_exp ρ e)
+  pub room : HasRoom k (size_exp ρ e)
 
-pub record FitCom (ρ : ℕ → Binding) (c : Com) (l : List ℕ) (p : ℕ) (F : List ℕ) : Type 0 where
+pub record FitCom (ρ : ℕ → Binding) (c : Com) (k : Code) (F : List ℕ) : Type 0 where
   pub need : need_com ρ c ≤ length F
-  pub room : Room l p (size_com ρ c)
+  pub room : HasRoom k (size_com ρ c)

@@ -1,174 +1,109 @@
-// The instructions of single constructs, laid into the code buffer. Source document 001's rules.
-ghost use Rattle.std.specs.Prelude.{◌≡◌, [], ◌∷◌, ◌+◌, ◌<◌, ◌≤◌, length, get_or};
-ghost use Rattle.instruction.specs.Instruction.{ins};
+// The instructions of single constructs, laid where the code goes on. Source document 001's rules.
+ghost use Rattle.std.specs.Prelude.{◌≡◌, ◌<◌, length};
+ghost use Rattle.instruction.specs.Instruction.{operation_number};
 ghost use Rattle.rule.specs.Tree.{equal};
-ghost use Rattle.rule.specs.Kind.{kind_of};
-ghost use Rattle.rule.specs.Table.{declaration_limit, declaration_rows, binding_of};
+ghost use Rattle.rule.specs.Kind.{op_said};
 ghost use Rattle.compiler.specs.Pool.{registers_of};
-ghost use Rattle.compiler.specs.Compile.{after, need_named, size_named, size_op, named_code, load_code, operator_code, not_code, store_code};
-ghost use Rattle.compiler.specs.Inside.{op_of, Binary, Based, Room, Emitted, either_way};
+ghost use Rattle.compiler.specs.Compile.{after, size_op, load_code, operator_code, not_code, store_code};
+ghost use Rattle.compiler.specs.Inside.{HasRoom, Lays, either_way};
 
-use crate::pool::lowest;
-use instruction::{ADD, ADDI, BEQ, BNE, JMP, LOAD, MUL, SLT, STORE, SUB};
-use rule::{AND, CONSTANT, EQUAL, LESS, MINUS, PLUS, TIMES};
+use crate::code::Code;
+use crate::pool::Pool;
+use instruction::Operation;
+use rule::Operator;
 
-// One instruction, at place `at`; the place after it.
-pub(crate) fn put(code: &mut [u32], at: usize, op: u32, a: u32, b: u32, c: u32) -> usize
-    requires { Room code.old at 1 }
-    ensures { Emitted code.old code.new at result (ins op a b c ∷ []) }
-{
-    let word = at * 4;
-    code[word] = op;
-    code[word + 1] = a;
-    code[word + 2] = b;
-    code[word + 3] = c;
-    at + 1
-}
-
-// The label of the instruction that stands `over` places after `at`.
-pub(crate) fn label(at: usize, over: usize) -> u32
-    requires { at + over < 4294967296 }
-    ensures { result ≡ after over at }
-{
-    (at + over) as u32
-}
-
-// After its operand is in t.
-pub(crate) fn emit_not(code: &mut [u32], at: usize, target: u32, t: u32) -> usize
-    requires { Room code.old at 3 }
-    ensures { Emitted code.old code.new at result (not_code target t at) }
-{
-    let p = put(code, at, ADDI, target, 1, 0);
-    let q = put(code, p, BEQ, t, 0, label(at, 3));
-    put(code, q, ADDI, target, 0, 0)
-}
-
-// After the operands are in t and u, as in the three that follow.
-fn emit_equal(code: &mut [u32], at: usize, target: u32, t: u32, u: u32) -> usize
-    requires { Room code.old at 4 }
-    ensures { Emitted code.old code.new at result (operator_code equal target t u at) }
-{
-    let p = put(code, at, BEQ, t, u, label(at, 3));
-    let q = put(code, p, ADDI, target, 0, 0);
-    let s = put(code, q, JMP, label(at, 4), 0, 0);
-    put(code, s, ADDI, target, 1, 0)
-}
-
-// And, or: `before`, unless neither operand's branch on $0 is taken, and then `last`.
-fn emit_either(
-    code: &mut [u32],
-    at: usize,
-    branch: u32,
-    target: u32,
-    t: u32,
-    u: u32,
-    before: u32,
-    last: u32,
-) -> usize
-    requires { Room code.old at 4 }
-    ensures { Emitted code.old code.new at result (either_way branch target t u before last (after 4 at)) }
-{
-    let end = label(at, 4);
-    let p = put(code, at, ADDI, target, before, 0);
-    let q = put(code, p, branch, t, 0, end);
-    let s = put(code, q, branch, u, 0, end);
-    put(code, s, ADDI, target, last, 0)
-}
-
-// The own instructions of the binary of a kind.
-pub(crate) fn emit_operator(
-    code: &mut [u32],
-    at: usize,
-    kind: u32,
-    target: u32,
-    t: u32,
-    u: u32,
-) -> usize
-    requires binary { Binary kind }
-    requires room { Room code.old at (size_op (op_of (kind_of kind))) }
-    ensures { Emitted code.old code.new at result (operator_code (op_of (kind_of kind)) target t u at) }
-{
-    if kind == PLUS {
-        return put(code, at, ADD, target, t, u);
+impl Code<'_> {
+    // Not, after its operand is in t.
+    #[tactic(auto, using(crate::proofs::Emitting::put_append))]
+    pub(crate) fn emit_not(&mut self, target: u32, t: u32)
+        requires { HasRoom self.old 3 }
+        ensures emitted { Lays self.old self.new (not_code target t self.old.at) }
+        ensures same { self.new.words.ghost_name ≡ self.old.words.ghost_name }
+    {
+        let end = self.label(3);
+        self.put(Operation::Addi, target, 1, 0);
+        self.put(Operation::Beq, t, 0, end);
+        self.put(Operation::Addi, target, 0, 0);
     }
-    if kind == MINUS {
-        return put(code, at, SUB, target, t, u);
-    }
-    if kind == TIMES {
-        return put(code, at, MUL, target, t, u);
-    }
-    if kind == LESS {
-        return put(code, at, SLT, target, t, u);
-    }
-    if kind == EQUAL {
-        return emit_equal(code, at, target, t, u);
-    }
-    if kind == AND {
-        return emit_either(code, at, BEQ, target, t, u, 0, 1);
-    }
-    emit_either(code, at, BNE, target, t, u, 1, 0)
-}
 
-// An identifier's value into the target.
-pub(crate) fn emit_name(
-    declarations: &&[u32],
-    bases: &[u32; 256],
-    x: usize,
-    target: u32,
-    pool: u64,
-    code: &mut [u32],
-    at: usize,
-) -> usize
-    requires based { Based declarations.now.now bases.now }
-    requires x_lt_declaration_limit { (x < declaration_limit) × (x < declaration_rows declarations.now.now) }
-    requires x_in_bounds { need_named (binding_of declarations.now.now x) ≤ length (registers_of pool) }
-    requires room { Room code.old at (size_named (binding_of declarations.now.now x)) }
-    ensures { Emitted code.old code.new at result (named_code (binding_of declarations.now.now x) target (registers_of pool)) }
-{
-    if declarations[x * 2] == CONSTANT {
-        return put(code, at, ADDI, target, declarations[x * 2 + 1], 0);
+    // Equal, after the operands are in t and u, as in the two that follow.
+    #[tactic(auto, using(crate::proofs::Emitting::put_append))]
+    fn emit_equal(&mut self, target: u32, t: u32, u: u32)
+        requires { HasRoom self.old 4 }
+        ensures emitted { Lays self.old self.new (operator_code equal target t u self.old.at) }
+        ensures same { self.new.words.ghost_name ≡ self.old.words.ghost_name }
+    {
+        let equal = self.label(3);
+        let end = self.label(4);
+        self.put(Operation::Beq, t, u, equal);
+        self.put(Operation::Addi, target, 0, 0);
+        self.put(Operation::Jmp, end, 0, 0);
+        self.put(Operation::Addi, target, 1, 0);
     }
-    let bx = lowest(pool);
-    let p = put(code, at, ADDI, bx, bases[x], 0);
-    put(code, p, LOAD, target, bx, 0)
-}
 
-// An element's value into the target, with its index in t.
-pub(crate) fn emit_load(
-    bases: &[u32; 256],
-    x: usize,
-    target: u32,
-    t: u32,
-    pool: u64,
-    code: &mut [u32],
-    at: usize,
-) -> usize
-    requires x_bound { x < 256 }
-    requires nonzero { 0 < length (registers_of pool) }
-    requires room { Room code.old at 2 }
-    ensures { Emitted code.old code.new at result (load_code (get_or bases.now x 0) target t (registers_of pool)) }
-{
-    let bx = lowest(pool);
-    let p = put(code, at, ADDI, bx, bases[x], 0);
-    put(code, p, LOAD, target, bx, t)
-}
+    // And, or: `before`, unless neither operand's branch on $0 is taken, and then `last`.
+    #[tactic(auto, using(crate::proofs::Emitting::put_append))]
+    fn emit_either(
+        &mut self,
+        branch: Operation,
+        target: u32,
+        t: u32,
+        u: u32,
+        before: u32,
+        last: u32,
+    )
+        requires { HasRoom self.old 4 }
+        ensures emitted { Lays self.old self.new (either_way (operation_number branch) target t u before last (after 4 self.old.at)) }
+        ensures same { self.new.words.ghost_name ≡ self.old.words.ghost_name }
+    {
+        let end = self.label(4);
+        self.put(Operation::Addi, target, before, 0);
+        self.put(branch, t, 0, end);
+        self.put(branch, u, 0, end);
+        self.put(Operation::Addi, target, last, 0);
+    }
 
-// The value in u into a cell of a name, with the index in t.
-pub(crate) fn emit_store(
-    bases: &[u32; 256],
-    x: usize,
-    t: u32,
-    u: u32,
-    pool: u64,
-    code: &mut [u32],
-    at: usize,
-) -> usize
-    requires x_bound { x < 256 }
-    requires nonzero { 0 < length (registers_of pool) }
-    requires room { Room code.old at 2 }
-    ensures { Emitted code.old code.new at result (store_code (get_or bases.now x 0) t u (registers_of pool)) }
-{
-    let bx = lowest(pool);
-    let p = put(code, at, ADDI, bx, bases[x], 0);
-    put(code, p, STORE, bx, t, u)
+    // The own instructions of a binary, by its operator.
+    pub(crate) fn emit_operator(&mut self, operator: Operator, target: u32, t: u32, u: u32)
+        requires { HasRoom self.old (size_op (op_said operator)) }
+        ensures emitted { Lays self.old self.new (operator_code (op_said operator) target t u self.old.at) }
+        ensures same { self.new.words.ghost_name ≡ self.old.words.ghost_name }
+    {
+        match operator {
+            Operator::Plus => self.put(Operation::Add, target, t, u),
+            Operator::Minus => self.put(Operation::Sub, target, t, u),
+            Operator::Times => self.put(Operation::Mul, target, t, u),
+            Operator::Less => self.put(Operation::Slt, target, t, u),
+            Operator::Equal => self.emit_equal(target, t, u),
+            Operator::And => self.emit_either(Operation::Beq, target, t, u, 0, 1),
+            Operator::Or => self.emit_either(Operation::Bne, target, t, u, 1, 0),
+        }
+    }
+
+    // The value of a cell into the target: the first cell is given, and the index is in t.
+    #[tactic(auto, using(crate::proofs::Emitting::put_append))]
+    pub(crate) fn emit_load(&mut self, first: u32, target: u32, t: u32, pool: Pool)
+        requires some { 0 < length (registers_of pool.bits) }
+        requires room { HasRoom self.old 2 }
+        ensures emitted { Lays self.old self.new (load_code first target t (registers_of pool.bits)) }
+        ensures same { self.new.words.ghost_name ≡ self.old.words.ghost_name }
+    {
+        let bx = pool.lowest();
+        self.put(Operation::Addi, bx, first, 0);
+        self.put(Operation::Load, target, bx, t);
+    }
+
+    // The value in u into a cell: the first cell is given, and the index is in t. Apart from `emit_load`, since the operation and the order of its
+    // words differ: both as parameters would be no plainer.
+    #[tactic(auto, using(crate::proofs::Emitting::put_append))]
+    pub(crate) fn emit_store(&mut self, first: u32, t: u32, u: u32, pool: Pool)
+        requires some { 0 < length (registers_of pool.bits) }
+        requires room { HasRoom self.old 2 }
+        ensures emitted { Lays self.old self.new (store_code first t u (registers_of pool.bits)) }
+        ensures same { self.new.words.ghost_name ≡ self.old.words.ghost_name }
+    {
+        let bx = pool.lowest();
+        self.put(Operation::Addi, bx, first, 0);
+        self.put(Operation::Store, bx, t, u);
+    }
 }

@@ -1,80 +1,76 @@
 // Registers needed. 01-scope.md, "Register choice".
-ghost use Rattle.std.specs.Prelude.{◌≡◌, ◌+◌, ◌*◌, ◌<◌, ◌≤◌, length};
-ghost use Rattle.rule.specs.Table.{declaration_limit, declaration_rows, binding_of, exp_at, com_at};
+ghost use Rattle.std.specs.Prelude.{◌≡◌, ◌+◌, ◌*◌, ◌<◌, ◌≤◌};
+ghost use Rattle.rule.specs.Table.{declaration_rows, binding_of, exp_at, com_at};
 ghost use Rattle.compiler.specs.Compile.{need_named, need_exp, need_com};
-ghost use Rattle.compiler.specs.Inside.{Rows, ExpRow, ComRow};
+ghost use Rattle.compiler.specs.Inside.{ExpRow, ComRow};
 
-use crate::node::{larger, link, word};
-use rule::{
-    ASSIGN, ASSIGN_ELEMENT, CONSTANT, ELEMENT, IDENTIFIER, NOT, SEQUENCE, SKIP, VALUE, WHILE,
-};
+use crate::tables::Tables;
+use rule::{Command, Expression};
 
-// Of an identifier.
-fn need_name(declarations: &&[u32], x: usize) -> u32
-    requires { (x < declaration_limit) × (x < declaration_rows declarations.now.now) }
-    ensures { result ≡ need_named (binding_of declarations.now.now x) }
-{
-    if declarations[x * 2] == CONSTANT {
-        0
-    } else {
-        1
+impl Tables<'_> {
+    // Of an identifier.
+    #[tactic(auto, using(crate::proofs::Bindings::need_stored))]
+    fn need_name(&self, x: usize) -> u32
+        requires { x < declaration_rows self.now.declarations.now }
+        ensures { result ≡ need_named (binding_of self.now.declarations.now x) }
+    {
+        match self.constant(x) {
+            Some(_) => 0,
+            None => 1,
+        }
     }
-}
 
-// Of a row's expression.
-pub(crate) fn need_exp(declarations: &&[u32], nodes: &&[u32], row: usize) -> u32
-    requires rows { Rows declarations.now.now nodes.now.now }
-    requires exp_row { ExpRow nodes.now.now row }
-    ensures value { result ≡ need_exp (binding_of declarations.now.now) (exp_at nodes.now.now row) }
-    ensures upper_bound { result ≤ row * 2 + 2 }
-{
-    let kind = word(nodes, row, 0);
-    if kind == VALUE {
-        return 0;
+    // Of a row's expression.
+    #[tactic(auto, using(crate::proofs::Rows::exp_read), unfolding(crate::specs::Compile::need_exp))]
+    pub(crate) fn need_exp(&self, row: usize) -> u32
+        requires exp_row { ExpRow self.now.nodes.now row }
+        ensures value { result ≡ need_exp (binding_of self.now.declarations.now) (exp_at self.now.nodes.now row) }
+        ensures upper_bound { result ≤ row * 2 + 2 }
+    {
+        match self.expression(row) {
+            Expression::Value => 0,
+            Expression::Identifier => self.need_name(self.link(row, 1)),
+            Expression::Element => 1 + u32::max(1, self.need_exp(self.operand(row, 2))),
+            Expression::Binary(_) => {
+                let left = self.need_exp(self.operand(row, 1));
+                let right = self.need_exp(self.operand(row, 2));
+                u32::max(1 + left, 2 + right)
+            }
+            Expression::Not => 1 + self.need_exp(self.operand(row, 1)),
+        }
     }
-    if kind == IDENTIFIER {
-        return need_name(declarations, link(nodes, row, 1));
-    }
-    if kind == ELEMENT {
-        return 1 + larger(1, need_exp(declarations, nodes, link(nodes, row, 2)));
-    }
-    let first = need_exp(declarations, nodes, link(nodes, row, 1));
-    if kind == NOT {
-        return 1 + first;
-    }
-    let second = need_exp(declarations, nodes, link(nodes, row, 2));
-    larger(1 + first, 2 + second)
-}
 
-// Of a row's command.
-pub(crate) fn need_com(declarations: &&[u32], nodes: &&[u32], row: usize) -> u32
-    requires rows { Rows declarations.now.now nodes.now.now }
-    requires com_row { ComRow nodes.now.now row }
-    ensures value { result ≡ need_com (binding_of declarations.now.now) (com_at nodes.now.now row) }
-    ensures upper_bound { result ≤ row * 2 + 3 }
-{
-    let kind = word(nodes, row, 0);
-    if kind == SKIP {
-        return 0;
+    // Of a row's command.
+    #[tactic(auto, using(crate::proofs::Rows::com_read), unfolding(crate::specs::Compile::need_com))]
+    pub(crate) fn need_com(&self, row: usize) -> u32
+        requires com_row { ComRow self.now.nodes.now row }
+        ensures value { result ≡ need_com (binding_of self.now.declarations.now) (com_at self.now.nodes.now row) }
+        ensures upper_bound { result ≤ row * 2 + 3 }
+    {
+        match self.command(row) {
+            Command::Skip => 0,
+            Command::Assign => 1 + u32::max(1, self.need_exp(self.operand(row, 2))),
+            Command::AssignElement => {
+                let index = self.need_exp(self.operand(row, 2));
+                let value = self.need_exp(self.operand(row, 3));
+                u32::max(1 + index, u32::max(2 + value, 3))
+            }
+            Command::Sequence => {
+                let first = self.need_com(self.part(row, 1));
+                let second = self.need_com(self.part(row, 2));
+                u32::max(first, second)
+            }
+            Command::If => {
+                let test = self.need_exp(self.operand(row, 1));
+                let body = self.need_com(self.part(row, 2));
+                let other = self.need_com(self.part(row, 3));
+                u32::max(1 + test, u32::max(body, other))
+            }
+            Command::While => {
+                let test = self.need_exp(self.operand(row, 1));
+                let body = self.need_com(self.part(row, 2));
+                u32::max(1 + test, body)
+            }
+        }
     }
-    if kind == ASSIGN {
-        return 1 + larger(1, need_exp(declarations, nodes, link(nodes, row, 2)));
-    }
-    if kind == ASSIGN_ELEMENT {
-        let index = need_exp(declarations, nodes, link(nodes, row, 2));
-        let value = need_exp(declarations, nodes, link(nodes, row, 3));
-        return larger(1 + index, larger(2 + value, 3));
-    }
-    if kind == SEQUENCE {
-        let first = need_com(declarations, nodes, link(nodes, row, 1));
-        let second = need_com(declarations, nodes, link(nodes, row, 2));
-        return larger(first, second);
-    }
-    let test = need_exp(declarations, nodes, link(nodes, row, 1));
-    let body = need_com(declarations, nodes, link(nodes, row, 2));
-    if kind == WHILE {
-        return larger(1 + test, body);
-    }
-    let other = need_com(declarations, nodes, link(nodes, row, 3));
-    larger(1 + test, larger(body, other))
 }

@@ -2,26 +2,37 @@
 ghost use Rattle.std.specs.Prelude.{◌≡◌, ◌<◌, length};
 ghost use Rattle.compiler.specs.Pool.{registers_of, fresh, without};
 
-// The lowest register of a pool.
-pub(crate) fn lowest(pool: u64) -> u32
-    requires { 0 < length (registers_of pool) }
-    ensures { result ≡ fresh (registers_of pool) }
-{
-    u64::trailing_zeros(pool)
+#[derive(Clone, Copy)]
+pub(crate) struct Pool {
+    pub(crate) bits: u64,
 }
 
-// The pool less its lowest register, whose bit is cleared.
-pub(crate) fn cleared(pool: u64) -> u64
-    requires { 0 < length (registers_of pool) }
-    ensures { registers_of result ≡ without (registers_of pool) }
-{
-    let t = u64::trailing_zeros(pool);
-    pool & !(1u64 << t)
-}
+impl Pool {
+    // The lowest register.
+    #[tactic(auto, using(crate::proofs::Pools::fresh_is_lowest))]
+    pub(crate) fn lowest(self) -> u32
+        requires { 0 < length (registers_of self.bits) }
+        ensures { result ≡ fresh (registers_of self.bits) }
+    {
+        self.bits.trailing_zeros()
+    }
 
-// The number of registers in a pool.
-pub(crate) fn count(pool: u64) -> u32
-    ensures { result ≡ length (registers_of pool) }
-{
-    u64::count_ones(pool)
+    // The pool less its lowest register, whose bit is cleared.
+    #[tactic(auto, using(crate::proofs::Pools::pool_pos, crate::proofs::Pools::without_lowest))]
+    pub(crate) fn less_lowest(self) -> Pool
+        requires { 0 < length (registers_of self.bits) }
+        ensures { registers_of result.bits ≡ without (registers_of self.bits) }
+    {
+        Pool {
+            bits: self.bits & (self.bits - 1),
+        }
+    }
+
+    // The number of registers.
+    #[tactic(auto, using(crate::proofs::Pools::count_registers))]
+    pub(crate) fn count(self) -> u32
+        ensures { result ≡ length (registers_of self.bits) }
+    {
+        self.bits.count_ones()
+    }
 }

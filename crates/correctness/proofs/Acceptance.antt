@@ -10,20 +10,22 @@ use lib.ListN.{length, take, drop}
 use lib.Seq.{take_at}
 use borrow.Author.Tests.{eqb-true, leb-true}
 use Rattle.instruction.specs.Instruction.{assemble}
-use Rattle.refusal.specs.declared.Verdict.{Verdict}
-use Rattle.refusal.specs.declared.Verdict.TheVariants.{Passes, Refuses}
 use Rattle.rule.specs.Table.{first_cell, binding_of, declaration_rows, program}
-use Rattle.rule.specs.Check.{node_words, declaration_words, declarations, declared, rows, used_once}
+use Rattle.rule.specs.Check.{node_words, declaration_words, declarations, declared, nodes, rows, used_once}
 use Rattle.rule.proofs.Verdicts.{both_pass}
 use Rattle.rule.proofs.Cells.{cells_fit_always}
+use Rattle.refusal.specs.Refusal.{Verdict, Passes, Refuses, ◌and_then◌}
 use Rattle.compiler.specs.Pool.{registers_of}
 use Rattle.compiler.specs.Compile.{size_com, need_com, t_prog}
 use Rattle.compiler.specs.Answer.{Said, accepted, pool_bit, enough, room_for, need, instructions, cells, said_as, verdict, compiled, buffer_as, leaves}
 use Rattle.compiler.proofs.Sizes.{size_prog, length_assemble}
-use Rattle.compiler.proofs.Answers.{after_passed}
 use Rattle.compiler.proofs.Ready.{ready}
 use Rattle.correctness.proofs.Frame.{Pool}
 use Rattle.correctness.proofs.Registers.{pool_registers}
+
+-- two checks that pass, one after the other
+both_passed : (a b : Verdict) → a ≡ Passes → b ≡ Passes → a and_then b ≡ Passes
+both_passed a b p q = ap (λ (v : Verdict). v and_then b) p ∙ q
 
 -- a check by a test
 tested : (t : Bool) (n v : ℕ) → cond t Passes (Refuses n v) ≡ Passes → t ≡ true
@@ -89,14 +91,20 @@ module _ (ds ns : List ℕ) (pool : ℕ) (code : List ℕ) (n c k : ℕ) (said :
 
   pub cells_said : (x : ℕ) → first_cell ds x ≤ 65536
   unfolding declared
-  cells_said = cells_fit_always ds (after_passed (declaration_words (length ds)) (declarations ds) checks.1 ∙ checks.3)
+  cells_said = cells_fit_always ds (both_passed (declaration_words (length ds)) (declarations ds) checks.1 checks.3)
 
   -- the count is that of T_prog's code, and so small that a run does not refuse it
   pub length_said : length (t_prog (binding_of ds) (program ns) (registers_of pool)) ≡ n
   length_said = size_prog (binding_of ds) (program ns) (registers_of pool) ∙ sym count_said
 
+  nodes_said : nodes ds ns ≡ Passes
+  unfolding nodes
+  nodes_said = both_passed (node_words (length ns)) _ checks.0 (both_passed (rows ds ns) (used_once ns) checks.4 checks.5)
+
   pub small_said : n * 4 ≤ 262144
-  small_said = let h = (ready ds ns checks.0 checks.1 checks.4 checks.5).small in omega (arith, count_said)
+  small_said =
+      let h = (ready ds ns (both_passed (node_words (length ns)) (declaration_words (length ds)) checks.0 checks.1) nodes_said).small in
+      omega (arith, count_said)
 
   pub length_code : length (assemble (t_prog (binding_of ds) (program ns) (registers_of pool))) ≡ n * 4
   length_code =

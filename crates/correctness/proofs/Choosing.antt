@@ -14,7 +14,7 @@ use Rattle.compiler.specs.Compile.{need_named, need_exp, need_com}
 use Rattle.correctness.specs.Choice.{Takes, here, there, ChoosesNamed, for_constant, for_variable, for_array}
 use Rattle.correctness.specs.Choice.{Chooses, for_value, for_identifier, for_element, for_binary, for_not}
 use Rattle.correctness.specs.Choice.{ChoosesCom, for_skip, for_assign, for_assign_element, for_sequence, for_if, for_while}
-use Rattle.compiler.proofs.Fitting.{length_without}
+use Rattle.compiler.proofs.Pools.{length_without}
 
 one_less : {t : ℕ} {F G : List ℕ} → Takes t F G → length F ≡ suc (length G)
 one_less here = refl

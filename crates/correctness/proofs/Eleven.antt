@@ -8,17 +8,14 @@ use Prim.Native.Nat.{ℕ, suc, ◌-◌, ◌*◌, ◌%◌, ◌≤◌, ◌<◌}
 use native.Mathlib.Omega.{arith}
 use lib.Dec.{eqb, ltb, leb}
 use lib.ListN.{length}
-use borrow.Author.Tests.{leb-false}
-use Rattle.refusal.specs.declared.Verdict.{Verdict}
-use Rattle.refusal.specs.declared.Verdict.TheVariants.{Passes, Refuses}
+use borrow.Author.Tests.{leb-false, lt-leb}
 use Rattle.rule.specs.Kind.{is_command}
 use Rattle.rule.specs.Table.{declaration_rows, sort, given, first_cell, binding_of, node_rows, kind_at, program}
-use Rattle.refusal.specs.Refusal.{◌and_then◌, lowest_from, first_refused}
+use Rattle.refusal.specs.Refusal.{Verdict, Passes, Refuses, ◌and_then◌, lowest_from, first_refused}
 use Rattle.rule.specs.Check.{is_declaration, declaration_no, refused as refused_no, last_no, row_no, misused, node_words, declaration_words, declarations, rows, used_once}
 use Rattle.compiler.specs.Pool.{registers_of}
 use Rattle.correctness.specs.Choice.{ChoosesCom}
 use Rattle.compiler.specs.Answer.{refused, said_as, pool_bit, enough, room_for, need, instructions, cells, verdict, compiled}
-use Rattle.compiler.proofs.Answers.{too_few}
 use Rattle.correctness.proofs.Choosing.{choice_needs, need_suffices}
 use Rattle.correctness.specs.Choice.{EarlierPass}
 
@@ -80,6 +77,10 @@ low_used_once ns = low_scan (λ j. 10) (misused ns) (node_rows ns - 1) (λ j. om
 passed_over : (a b : Verdict) (k : ℕ) → Low a → a and_then b ≡ Refuses 11 k → (a ≡ Passes) × (b ≡ Refuses 11 k)
 passed_over Passes b k h e = (refl, e)
 passed_over (Refuses n v) b k h e = let z = h 11 k e in absurd (omega arith)
+
+too_few : (need count : ℕ) → count < need → enough need count ≡ Refuses 11 need
+unfolding enough
+too_few need count h = rw (lt-leb need count h)
 
 too_few_needed : (n count m words k : ℕ) → enough n count and_then room_for m words ≡ Refuses 11 k → (count < n) × (k ≡ n)
 unfolding enough room_for

@@ -1,7 +1,7 @@
 -- That a choice of registers exists, "even if a fresh register might be any one left and not the lowest". 01-scope.md, "Register choice".
 -- ρ is what the names stand for and F the pool handed to a construct.
 use Rattle.std.specs.Prelude.{◌≡◌, List, ◌∷◌, ℕ, length}
-use Rattle.refusal.specs.declared.Verdict.TheVariants.{Passes}
+use Rattle.refusal.specs.Refusal.{Passes}
 use Rattle.rule.specs.Tree.{Op, Exp, value, ident, element, binary, negate}
 use Rattle.rule.specs.Tree.{Com, skip, assign, assign_at, sequence, choose, while}
 use Rattle.rule.specs.Tree.{Binding, constant, variable, array}

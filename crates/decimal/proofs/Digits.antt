@@ -1,13 +1,7 @@
 -- The digits of a number: its last one after those of its tenth, and how many there are.
 -- Assumes nothing.
-use mathlib.Core.Path.{◌≡◌, refl, sym, ap, ◌∙◌}
-use mathlib.Core.Bool.{Bool, true, false}
-use mathlib.Core.List.{List, [], ◌∷◌, ◌++◌}
-use Prim.Native.Nat.{ℕ, zero, suc, ◌+◌, ◌/◌, ◌%◌, ◌^◌, ◌<◌, ◌≤◌}
-use native.Mathlib.Omega.{arith}
-use lib.Dec.{ltb}
-use lib.ListN.{length, length-append}
-use borrow.Author.Tests.{lt-ltb, le-ltb, ltb-true, ltb-false}
+use Rattle.std.proofs.Common.{◌≡◌, Bool, true, false, List, [], ◌∷◌, ◌++◌, ℕ, zero, suc, ◌+◌, ◌*◌, ◌/◌, ◌%◌, ◌^◌, ◌<◌, ◌≤◌, ltb, length, refl, sym, ap, ◌∙◌, subst, add-one, length-append, lt-ltb, le-ltb, ltb-true, ltb-false, arith}
+use Rattle.std.proofs.Math.Nat.{one-le-pow}
 use Rattle.decimal.specs.Bytes.{bytes}
 use Rattle.decimal.specs.Decimal.{digit, digits_in, digits}
 
@@ -90,3 +84,26 @@ digits_short (suc k) n h = go (λ l. digits_short k (n / 10) (omega arith)) (ltb
     go : (10 ≤ n → length (digits (n / 10)) ≤ suc k) → (t : Bool) → ltb n 10 ≡ t → length (digits n) ≤ suc (suc k)
     go tenth true e = let l = length_one n (ltb-true n 10 e) in omega arith
     go tenth false e = let h = ltb-false n 10 e in let l = length_more n h in let p = tenth h in omega arith
+
+-- n from 10 ^ k on has more than k
+digits_long : (k n : ℕ) → 10 ^ k ≤ n → suc k ≤ length (digits n)
+digits_long zero n h = digits_some n
+digits_long (suc k) n h =
+    let p = digits_long k (n / 10) (omega arith) in
+    let ten = one-le-pow k 10 (omega arith) in
+    let l = length_more n (omega arith) in
+    omega arith
+
+-- so they are one more than the logarithm says
+pub digits_counted : (k n : ℕ) → 10 ^ k ≤ n → n < 10 * 10 ^ k → k + 1 ≡ length (digits n)
+digits_counted k n h l = omega (arith, digits_short k n (omega arith), digits_long k n h)
+
+-- as many digits as there are say how large the number can be
+pub digits_bound : (k n : ℕ) → k ≡ length (digits n) → n < 10 ^ k
+digits_bound k n e = subst (λ (k : ℕ). n < 10 ^ k) (sym e) (bound n)
+  where
+    bound : (n : ℕ) → n < 10 ^ length (digits n)
+    bound =
+        by_digits (λ (n : ℕ). n < 10 ^ length (digits n))
+        (λ n h. let e = ap (λ (k : ℕ). 10 ^ k) (length_one n h) in omega arith)
+        (λ n h p. let e = ap (λ (k : ℕ). 10 ^ k) (length_more n h ∙ add-one (length (digits (n / 10)))) in omega arith)

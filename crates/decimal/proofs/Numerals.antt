@@ -1,17 +1,12 @@
 -- Numerals: a minus or none and the digits of the number without its sign, no leading zero, and read back as the number that was written.
 -- Assumes nothing.
-use mathlib.Core.Path.{◌≡◌, refl, sym, ap, ap₂, ◌∙◌}
-use mathlib.Core.Bool.{Bool, true, false, cond, ◌&&◌, and-eq-true_iff}
-use mathlib.Core.List.{List, [], ◌∷◌, ◌++◌}
-use Prim.Native.Nat.{ℕ, suc, ◌+◌, ◌-◌, ◌*◌, ◌/◌, ◌%◌, ◌^◌, ◌<◌, ◌≤◌}
+use Rattle.std.proofs.Common.{◌≡◌, Bool, true, false, cond, ◌&&◌, List, [], ◌∷◌, ◌++◌, ℕ, suc, ◌+◌, ◌-◌, ◌*◌, ◌/◌, ◌%◌, ◌^◌, ◌<◌, ◌≤◌, ltb, leb, ℤ, pos, negsuc, nat_abs, int_lt, ◌≤ℤ◌, ◌<ℤ◌, length, get_or, refl, sym, ap, ap₂, ◌∙◌, subst, lt-ltb, le-ltb, le-leb, ltb-true, leb-true, ne_eqb, arith}
+use Rattle.std.proofs.lemmas.Int.{ints}
+use Rattle.std.proofs.Math.Bool.{and-eq-true_iff}
+use Rattle.std.specs.Int.{w32, cast_signed, from_bool}
 use Prim.Native.Char.{code}
-use native.Mathlib.Omega.{arith}
-use lib.Dec.{ltb, leb}
-use lib.IntN.{ℤ, pos, negsuc, nat_abs}
-use lib.ListN.{length, get_or}
-use borrow.Author.Tests.{lt-ltb, le-ltb, le-leb, ltb-true, ltb-false, leb-true, ne_eqb}
 use Rattle.word.specs.Word.{signed}
-use Rattle.word.proofs.Biased.{signed_low, signed_high}
+use Rattle.word.proofs.Signed.{signed_low, signed_high, cast_signed_is_signed}
 use Rattle.decimal.specs.Bytes.{bytes}
 use Rattle.decimal.specs.Decimal.{digit, digits_in, digits, decimal, numeral, is_digit, all_digits, value_from, value, none, number, natural, negated, reading}
 use Rattle.decimal.proofs.Digits.{digits_within, digits_one, digits_more, by_digits, digits_some, digits_short}
@@ -20,50 +15,55 @@ minus_one : numeral 4294967295 ≡ bytes "-1"
 unfolding numeral signed digits_in
 minus_one = refl
 
--- the number without its sign
-pub magnitude_low : (w : ℕ) → w < 2147483648 → nat_abs (signed w) ≡ w
-magnitude_low w h = ap nat_abs (signed_low w (lt-ltb w 2147483648 h))
+-- the digits of the number without its sign, and before them a minus if the number is negative
+decimal_plain : (z : ℤ) → pos 0 ≤ℤ z → decimal z ≡ digits (nat_abs z)
+decimal_plain (pos n) h = refl
+decimal_plain (negsuc n) h = absurd (omega (arith, ints))
 
-pub magnitude_high : (w : ℕ) → 2147483648 ≤ w → nat_abs (signed w) ≡ suc (4294967295 - w)
-magnitude_high w h = ap nat_abs (signed_high w (le-ltb w 2147483648 h))
+decimal_minus : (z : ℤ) → z <ℤ pos 0 → decimal z ≡ bytes "-" ++ digits (nat_abs z)
+decimal_minus (pos n) h = absurd (omega (arith, ints))
+decimal_minus (negsuc n) h = refl
 
--- its digits, and before them a minus if the number is negative
-pub numeral_low : (w : ℕ) → w < 2147483648 → numeral w ≡ digits (nat_abs (signed w))
+module _ (w : ℕ) where
+  pub numeral_plain : pos 0 ≤ℤ cast_signed w32 w → numeral w ≡ digits (nat_abs (signed w))
+  unfolding numeral
+  numeral_plain h = decimal_plain (signed w) (subst (λ (z : ℤ). pos 0 ≤ℤ z) (cast_signed_is_signed w) h)
+
+  pub numeral_minus : cast_signed w32 w <ℤ pos 0 → numeral w ≡ bytes "-" ++ digits (nat_abs (signed w))
+  unfolding numeral
+  numeral_minus h = decimal_minus (signed w) (subst (λ (z : ℤ). z <ℤ pos 0) (cast_signed_is_signed w) h)
+
+from_bool-le_one : (b : Bool) → from_bool b ≤ 1
+from_bool-le_one true = omega arith
+from_bool-le_one false = omega arith
+
+-- so it has as many bytes as digits, or one more
+decimal_bytes : (z : ℤ) → length (decimal z) ≡ length (digits (nat_abs z)) + from_bool (int_lt z (pos 0))
+decimal_bytes (pos n) = rw (le-ltb n 0 (omega arith)) (omega arith)
+decimal_bytes (negsuc n) = omega arith
+
+pub numeral_bytes : (w : ℕ) → length (numeral w) ≡ length (digits (nat_abs (signed w))) + from_bool (int_lt (cast_signed w32 w) (pos 0))
 unfolding numeral
-numeral_low w h = rw (signed_low w (lt-ltb w 2147483648 h))
+numeral_bytes w = rw (cast_signed_is_signed w) (decimal_bytes (signed w))
 
-pub numeral_high : (w : ℕ) → 2147483648 ≤ w → numeral w ≡ bytes "-" ++ digits (nat_abs (signed w))
-unfolding numeral
-numeral_high w h = rw (signed_high w (le-ltb w 2147483648 h))
-
--- so it has as many bytes as digits, or one more, and there are at most ten digits
-pub numeral_length : (w : ℕ) → (length (digits (nat_abs (signed w))) ≤ length (numeral w)) × (length (numeral w) ≤ suc (length (digits (nat_abs (signed w))))) × (nat_abs (signed w) < 10 ^ 10)
-numeral_length w = go (ltb w 2147483648) refl
+-- and there are at most ten digits
+magnitude_fits : (w : ℕ) → nat_abs (signed w) < 10 ^ 10
+magnitude_fits w = go (ltb w 2147483648) refl
   where
-    go : (t : Bool) → ltb w 2147483648 ≡ t → (length (digits (nat_abs (signed w))) ≤ length (numeral w)) × (length (numeral w) ≤ suc (length (digits (nat_abs (signed w))))) × (nat_abs (signed w) < 10 ^ 10)
-    go true e =
-        let h = ltb-true w 2147483648 e in
-        let m = magnitude_low w h in
-        let l = ap length (numeral_low w h) in
-        omega arith
-    go false e =
-        let h = ltb-false w 2147483648 e in
-        let m = magnitude_high w h in
-        let l = ap length (numeral_high w h) in
-        omega arith
-
-pub numeral_some : (w : ℕ) → 1 ≤ length (numeral w)
-numeral_some w = omega (arith, numeral_length w, digits_some (nat_abs (signed w)))
+    go : (t : Bool) → ltb w 2147483648 ≡ t → nat_abs (signed w) < 10 ^ 10
+    go true e = let h = ltb-true w 2147483648 e in rw (signed_low w e) (omega arith)
+    go false e = rw (signed_high w e) (omega arith)
 
 pub numeral_short : (w : ℕ) → length (numeral w) ≤ 11
-numeral_short w = omega (arith, numeral_length w, digits_short 9 (nat_abs (signed w)) (numeral_length w).2)
+numeral_short w =
+    omega (arith, numeral_bytes w, digits_short 9 (nat_abs (signed w)) (magnitude_fits w), from_bool-le_one (int_lt (cast_signed w32 w) (pos 0)))
 
 -- a number that is not negative has few bytes if it is small
 pub numeral_within : (k w : ℕ) → w < 2147483648 → w < 10 ^ suc k → length (numeral w) ≤ suc k
+unfolding numeral
 numeral_within k w h l =
-    let e = ap length (numeral_low w h) in
-    let m = magnitude_low w h in
-    let d = digits_short k (nat_abs (signed w)) (omega arith) in
+    let e = ap (λ (z : ℤ). length (decimal z)) (signed_low w (lt-ltb w 2147483648 h)) in
+    let d = digits_short k w l in
     omega arith
 
 -- The ends of the range

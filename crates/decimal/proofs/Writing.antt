@@ -1,22 +1,26 @@
--- Bytes written into a part of a text: where there is room and where there is none, one run after another, and a byte that is written before those that stand in front of it.
+-- Bytes written into a part of a text: where there is room and where there is none, and one run after another.
 -- Assumes nothing.
-use mathlib.Core.Path.{◌≡◌, refl, sym, ap, ◌∙◌}
-use mathlib.Core.List.{List, [], ◌∷◌, ◌++◌}
-use Prim.Native.Nat.{ℕ, suc, ◌+◌, ◌<◌, ◌≤◌}
-use native.Mathlib.Nat.{add-suc, add-zero, suc-add}
-use native.Mathlib.Omega.{arith}
-use lib.ListN.{length, set}
-use lib.Seq.{sets, set_comm}
-use borrow.Author.Tests.{le-leb, lt-leb}
+use Rattle.std.proofs.Common.{◌≡◌, List, [], ◌∷◌, ◌++◌, ℕ, suc, ◌+◌, ◌<◌, ◌≤◌, Some, None, length, set, take, drop, sym, ap, ap₂, ◌∙◌, add-suc, add-zero, suc-add, append_assoc, le-leb, arith}
+use Rattle.std.proofs.lemmas.Bool.{lt-leb}
+use Rattle.std.proofs.Math.Seq.{drop-drop}
+use Rattle.std.proofs.lemmas.List.Edits.{sets, sets-eq}
+use borrow.Rule.Slice.PartMut.{put_mid}
 use Rattle.decimal.specs.Bytes.{written, written_at}
 
-pub written_room : (text : List ℕ) (at : ℕ) (bs : List ℕ) → at + length bs ≤ length text → written_at text at bs ≡ written (length bs) (sets text at bs)
+pub written_room : (text : List ℕ) (at : ℕ) (bs : List ℕ) → at + length bs ≤ length text → written_at text at bs ≡ written (Some (length bs)) (sets text at bs)
 unfolding written_at
 written_room text at bs h = rw (le-leb (at + length bs) (length text) h)
 
-pub written_no_room : (text : List ℕ) (at : ℕ) (bs : List ℕ) → length text < at + length bs → written_at text at bs ≡ written 0 text
+pub written_no_room : (text : List ℕ) (at : ℕ) (bs : List ℕ) → length text < at + length bs → written_at text at bs ≡ written None text
 unfolding written_at
 written_no_room text at bs h = rw (lt-leb (at + length bs) (length text) h)
+
+-- the same as the part that is lent for the bytes, and handed back with them
+pub written_part : (text : List ℕ) (at k : ℕ) (bs : List ℕ) → k ≡ length bs → at + k ≤ length text → written (Some k) (put_mid at k text bs) ≡ written_at text at bs
+written_part text at k bs e h =
+    ap₂ (λ (n : ℕ) (rest : List ℕ). written (Some n) (take at text ++ (bs ++ rest))) e (drop-drop k at text ∙ ap (λ (n : ℕ). drop (at + n) text) e)
+    ∙ ap (written (Some (length bs))) (sym (append_assoc (take at text) bs (drop (at + length bs) text)) ∙ sym (sets-eq bs text at (omega arith)))
+    ∙ sym (written_room text at bs (omega arith))
 
 -- one run after another
 pub sets_append : (l : List ℕ) (i : ℕ) (a b : List ℕ) → sets (sets l i a) (i + length a) b ≡ sets l i (a ++ b)
@@ -24,14 +28,3 @@ sets_append l i [] b = ap (λ (k : ℕ). sets l k b) (add-zero i)
 sets_append l i (x ∷ a) b =
     ap (λ (k : ℕ). sets (sets (set l i x) (suc i) a) k b) (add-suc i (length a) ∙ sym (suc-add i (length a)))
     ∙ sets_append (set l i x) (suc i) a b
-
--- a byte past a run may be written before or after it
-set_after : (l : List ℕ) (i j x : ℕ) (bs : List ℕ) → i + length bs ≤ j → sets (set l j x) i bs ≡ set (sets l i bs) j x
-set_after l i j x [] h = refl
-set_after l i j x (b ∷ bs) h =
-    ap (λ (m : List ℕ). sets m (suc i) bs) (set_comm l j i x b (λ e. omega arith))
-    ∙ set_after (set l i b) (suc i) j x bs (omega arith)
-
--- the last byte of a run may be written first
-pub last_first : (l : List ℕ) (i d : ℕ) (bs : List ℕ) → sets (set l (i + length bs) d) i bs ≡ sets l i (bs ++ (d ∷ []))
-last_first l i d bs = set_after l i (i + length bs) d bs (omega arith) ∙ sets_append l i bs (d ∷ [])

@@ -1,81 +1,77 @@
 // Signed 32-bit numbers as decimal bytes: how many they are, and written into a part of a text.
 #![tactic(auto)]
 
-ghost use Rattle.std.specs.Prelude.{◌≡◌, ◌-◌, ◌≤◌, nat_abs, length};
-ghost use Rattle.std.proofs.lemmas.List.Edits.{sets};
+ghost use Rattle.std.specs.Prelude.{◌≡◌, ◌≤◌, nat_abs, length};
 ghost use Rattle.word.specs.Word.{signed};
 ghost use Rattle.decimal.specs.Bytes.{written, written_at};
 ghost use Rattle.decimal.specs.Decimal.{digits, numeral};
 
-// The word of the least number: from it on words stand for negative ones.
-const LEAST: u32 = 2147483648;
-
-// The word of -1.
-const MINUS_ONE: u32 = 4294967295;
-
-// The number without its sign: for a negative one, what its word lacks of 2^32.
+// The number without its sign.
+#[tactic(auto, using(word::proofs::Signed::cast_signed_is_signed))]
 fn magnitude(word: u32) -> u32
     ensures { result ≡ nat_abs (signed word) }
 {
-    if word < LEAST {
-        return word;
-    }
-    MINUS_ONE - word + 1
+    word.cast_signed().unsigned_abs()
 }
 
 // How many digits the number has.
+#[tactic(auto, using(crate::proofs::Digits::digits_counted, crate::proofs::Digits::length_one))]
 fn digit_count(n: u32) -> usize
     ensures { (result ≡ length (digits n)) × (result ≤ 10) }
 {
-    let mut left = n;
-    let mut count: usize = 1;
-    while 10 <= left {
-        left /= 10;
-        count += 1;
+    if n < 10 {
+        return 1;
     }
-    count
+    n.ilog10() as usize + 1
 }
 
-// How many bytes the number has.
+// How many bytes the number has: its digits, and a minus if it is negative.
+#[tactic(auto, using(crate::proofs::Numerals::numeral_bytes))]
 pub fn width(word: u32) -> usize
     ensures { result ≡ length (numeral word) }
 {
-    let digits = digit_count(magnitude(word));
-    if word < LEAST {
-        return digits;
-    }
-    digits + 1
+    digit_count(magnitude(word)) + usize::from(word.cast_signed() < 0)
 }
 
-// Writes the digits of the number, from the last, which stands before `end`, to the first.
-fn fill(text: &mut [u8], end: usize, n: u32)
-    requires { (length (digits n) ≤ end) × (end ≤ length text.old) }
-    ensures { text.new ≡ sets text.old (end - length (digits n)) (digits n) }
+// Writes the digits of the number into the places for them, from the last to the first.
+#[tactic(auto, using(std::proofs::lemmas::Grind::common_steps, crate::proofs::Filling::last_all, crate::proofs::Digits::digits_bound, crate::proofs::Digits::digits_some))]
+fn fill(places: &mut [u8], n: u32)
+    requires { length places.old ≡ length (digits n) }
+    ensures { places.new ≡ digits n }
 {
     let mut rest = n;
-    let mut i = end;
-    while 10 <= rest {
-        i -= 1;
-        text[i] = b'0' + (rest % 10) as u8;
+    // By place: of what is written through `iter_mut().rev()` std says nothing, and no proof closes.
+    for place in (1..places.len()).rev() {
+        places[place] = b'0' + (rest % 10) as u8;
         rest /= 10;
     }
-    text[i - 1] = b'0' + rest as u8;
+    places[0] = b'0' + rest as u8;
 }
 
-// Writes the number from a place of the text on, if there is room for it. Answers the number of bytes written.
-pub fn write(text: &mut [u8], at: usize, word: u32) -> usize
+// Writes the number into the places for its bytes.
+#[tactic(auto, using(std::proofs::lemmas::Grind::common_steps, crate::proofs::Filling::front_first, crate::proofs::Numerals::numeral_plain, crate::proofs::Numerals::numeral_minus))]
+fn put(places: &mut [u8], word: u32)
+    requires { length places.old ≡ length (numeral word) }
+    ensures { places.new ≡ numeral word }
+{
+    if word.cast_signed() < 0 {
+        places[0] = b'-';
+        fill(&mut places[1..], magnitude(word));
+    } else {
+        fill(places, magnitude(word));
+    }
+}
+
+// Writes the number from a place of the text on, if there is room for it, and gives the number of bytes written.
+#[tactic(auto, using(std::proofs::lemmas::Grind::common_steps, crate::proofs::Writing::written_part, crate::proofs::Writing::written_no_room))]
+pub fn write(text: &mut [u8], at: usize, word: u32) -> Option<usize>
     ensures { written result text.new ≡ written_at text.old at (numeral word) }
 {
     let bytes = width(word);
-    if text.len() < at {
-        return 0;
+    let room = text.len().checked_sub(at)?;
+    if room < bytes {
+        return None;
     }
-    if text.len() - at < bytes {
-        return 0;
-    }
-    if LEAST <= word {
-        text[at] = b'-';
-    }
-    fill(text, at + bytes, magnitude(word));
-    bytes
+    put(&mut text[at..at + bytes], word);
+    Some(bytes)
 }

@@ -5,261 +5,170 @@ mod antenna;
 mod reason;
 mod show;
 
-ghost use Rattle.std.specs.Prelude.{◌≤◌};
-
-use antenna::{CUTOVER, HOURS, LOCAL, MINUTES, declared, rule_of};
-use compiler::CompileAnswer;
-use listing::ListAnswer;
-use machine::{Ending, RunAnswer, State};
-use show::text;
-use std::io;
+use antenna::{CUTOVER, DECLARATIONS, HOURS, declared, rule_of};
+use machine::{Ending, State};
+use reason::{Compiled, Ran, Refused};
+use show::{Clock, Declared, Registers};
 use std::io::Write;
+use std::{array, io};
+use wording::{PoolWords, SignedWords};
 
 // The host lends $40 to $47, and once only $40 to $45.
-const POOL: u64 = 0xff0000000000;
+const POOL: u64 = 0xff << 40;
 
-const SMALL_POOL: u64 = 0x3f0000000000;
+const SMALL_POOL: u64 = 0x3f << 40;
 
-// Room for the lines of 16 instructions, none of which has more than 33 bytes.
-const LINES: usize = 528;
+// Room for so many instructions: for their words, and for their lines, none of which has more than 33 bytes.
+const ROOM: usize = 16;
 
-// The declarations by name, each with its cell.
+const INSTRUCTION_WORDS: usize = 4;
+
+const WORDS: usize = ROOM * INSTRUCTION_WORDS;
+
+const BYTES: usize = ROOM * 33;
+
+// The budget of a whole run, and of each slice of one, of which there are at most so many.
+const BUDGET: u32 = 100;
+
+const SLICE: u32 = 5;
+
+const MOST_SLICES: u32 = 10;
+
+// The memory that a run starts with: noon in local, and cutover still to come.
+const MEMORY: [u32; 2] = [43200, 0];
+
+// The declarations, each with its row and its cell.
 fn show_declarations(rt: &impl Print) -> io::Result<()> {
-    let declarations = declared();
-    let layout = lay_out(&declarations);
-    let cells = layout.bases;
-    text(rt, "Declarations, where a variable has a cell of memory:\n")?;
-    show::declaration(rt, "local  ", LOCAL, &declarations, &cells)?;
-    show::declaration(rt, "hours  ", HOURS, &declarations, &cells)?;
-    show::declaration(rt, "minutes", MINUTES, &declarations, &cells)?;
-    show::declaration(rt, "cutover", CUTOVER, &declarations, &cells)?;
-    text(rt, "\n")
-}
-
-// The cells given out to the declarations.
-fn lay_out(declarations: &[u32; 8]) -> rule::Layout {
-    rule::lay_out(declarations)
-}
-
-// A compilation's answer. The number of instructions is handed back, 0 of a refused rule.
-fn answered(rt: &impl Print, answer: CompileAnswer, pool: u64) -> io::Result<u32> {
-    match answer {
-        CompileAnswer::Accepted(instructions, cells, need) => {
-            show::many(rt, "accepted with ", instructions, " instruction")?;
-            show::many(rt, ", ", cells, " cell")?;
-            show::many(rt, " and ", need, " register")?;
-            text(rt, " needed\n")?;
-            Ok(instructions)
-        }
-        CompileAnswer::Refused(no, value) => {
-            reason::refusal(rt, no, value, pool)?;
-            Ok(0)
-        }
+    let layout = match rule::lay_out(declared().as_flattened()) {
+        Ok(layout) => layout,
+        Err(refusal) => return println!(rt; "{}", Refused::from(refusal)),
+    };
+    println!(rt; "Declarations, where a variable has a cell of memory:")?;
+    for (row, declaration) in DECLARATIONS.iter().enumerate() {
+        let declared = Declared {
+            declaration: *declaration,
+            cell: layout.bases[row],
+        };
+        println!(rt; "    {row:>2}  {declared}")?;
     }
+    println!(rt)
 }
 
-// A rule compiled with a pool.
-fn compiled(
+// So many at the front of a slice, or all of it.
+fn front<T>(items: &[T], count: usize) -> &[T] {
+    &items[..count.min(items.len())]
+}
+
+// The rule that sets a name, compiled with a pool, and what came of it. The code is handed back, nothing of a refused rule.
+fn compiled<'a>(
     rt: &impl Print,
-    declarations: &[u32; 8],
-    nodes: &[u32; 40],
+    name: u32,
     pool: u64,
-    code: &mut [u32; 64],
-) -> io::Result<u32> {
-    text(rt, "Pool")?;
-    show::pool(rt, pool)?;
-    text(rt, ": ")?;
-    answered(rt, compiler::compile(declarations, nodes, pool, code), pool)
-}
-
-// So many instructions at the front.
-fn front(words: &[u32], instructions: u32) -> &[u32] {
-    let end = instructions as usize * 4;
-    if words.len() < end {
-        return words;
-    }
-    &words[0..end]
-}
-
-// So many instructions of the buffer.
-fn code_of(buffer: &[u32; 64], instructions: u32) -> &[u32] {
-    front(buffer, instructions)
-}
-
-// So many bytes at the front.
-fn written(bytes: &[u8], count: u32) -> &[u8] {
-    let end = count as usize;
-    if bytes.len() < end {
-        return bytes;
-    }
-    &bytes[0..end]
+    buffer: &'a mut [u32; WORDS],
+) -> io::Result<&'a [u32]> {
+    let nodes = rule_of(name);
+    let answer = compiler::compile(
+        declared().as_flattened(),
+        nodes.as_flattened(),
+        pool,
+        buffer,
+    );
+    println!(rt; "Pool{}: {}", PoolWords(pool), Compiled { answer, pool })?;
+    let instructions = answer.map_or(0, |accepted| accepted.instructions);
+    Ok(front(buffer, instructions as usize * INSTRUCTION_WORDS))
 }
 
 // The listing of a code that fits the buffer.
 fn show_listing(rt: &impl Print, code: &[u32]) -> io::Result<()> {
-    let mut lines = [0u8; LINES];
-    let answer = listing::list(code, &mut lines);
-    match answer {
-        ListAnswer::Listed(count) => io::writer(rt).write_all(written(&lines, count)),
-        ListAnswer::Refused(no, value) => reason::refusal(rt, no, value, 0),
+    let mut lines = [0; BYTES];
+    match listing::list(code, &mut lines) {
+        Ok(bytes) => io::writer(rt).write_all(front(&lines, bytes as usize)),
+        Err(refusal) => println!(rt; "{}", Refused::from(refusal)),
     }
 }
 
 // Registers that hold their own numbers.
 fn numbered() -> [u32; 64] {
-    let mut registers = [0u32; 64];
-    let mut k: u32 = 0;
-    while k < 64 {
-        registers[k as usize] = k;
-        k += 1;
-    }
-    registers
-}
-
-// 1 where a register outside the pool holds its number.
-fn kept(bit: u64, k: u32, w: u32) -> u32
-    ensures { result ≤ 1 }
-{
-    if bit == 1 {
-        return 0;
-    }
-    if w == k { 1 } else { 0 }
+    array::from_fn(|register| register as u32)
 }
 
 // How many registers outside the pool hold their numbers.
-fn unchanged(registers: &[u32; 64], pool: u64) -> u32 {
-    let mut rest = pool;
-    let mut count: u32 = 0;
-    let mut k: u32 = 0;
-    while k < 64 {
-        count += kept(rest % 2, k, registers[k as usize]);
-        rest = rest / 2;
-        k += 1;
-    }
-    count
+fn unchanged(registers: &[u32; 64], pool: u64) -> usize {
+    (0..64)
+        .zip(registers)
+        .filter(|(number, word)| (pool >> *number) % 2 == 0 && **word == *number)
+        .count()
 }
 
-// The registers after a run, where each held its number before.
+// The registers after a run, where each held its own number before.
 fn show_registers(rt: &impl Print, registers: &[u32; 64]) -> io::Result<()> {
-    text(
-        rt,
-        "Registers after the run, where each held its own number before it:\n",
-    )?;
-    show::registers(rt, registers)?;
+    println!(rt; "Registers after the run, where each held its own number before it:")?;
+    print!(rt; "{}", Registers(registers))?;
     let kept = unchanged(registers, POOL);
-    show::named(rt, "    unchanged outside the pool: ", kept)?;
-    show::named(rt, " of ", u64::count_ones(u64::MAX - POOL))?;
-    text(rt, "\n")
+    let others = POOL.count_zeros();
+    println!(rt; "    unchanged outside the pool: {kept} of {others}")
 }
 
-// The memory after a run, and what it means.
-fn show_result(rt: &impl Print, memory: &[u32; 2]) -> io::Result<()> {
-    text(rt, "    memory after:")?;
-    show::memory(rt, memory)?;
-    text(rt, "    local time ")?;
-    show::clock(rt, memory[0])?;
-    text(rt, ", cut-over ")?;
-    show::clock(rt, memory[1])?;
-    text(rt, "\n")
-}
-
-// One run under a budget, with the memory before and after it.
+// One run under a budget, with the memory before and after it, and what the memory means.
 fn whole(rt: &impl Print, code: &[u32]) -> io::Result<()> {
-    let mut memory = [43200u32, 0];
+    let mut memory = MEMORY;
     let start = State {
         place: 0,
         registers: numbered(),
     };
-    text(rt, "\nRun under a budget of 100 steps:\n    memory before:")?;
-    show::memory(rt, &memory)?;
-    let ran = machine::run(code, &mut memory, start, 100);
-    let answer = ran.answer;
-    let state = ran.state;
-    reason::ran(rt, answer, state.place)?;
-    show_result(rt, &memory)?;
-    let registers = state.registers;
+    println!(rt; "\nRun under a budget of {BUDGET} steps:")?;
+    println!(rt; "    memory before:{}", SignedWords(&memory))?;
+    let ran = machine::run(code, &mut memory, start, BUDGET);
+    let State { place, registers } = ran.state;
+    println!(rt;
+        "    {}",
+        Ran {
+            answer: ran.answer,
+            place
+        }
+    )?;
+    println!(rt; "    memory after:{}", SignedWords(&memory))?;
+    let [local, cutover] = memory.map(Clock);
+    println!(rt; "    local time {local}, cut-over {cutover}")?;
     show_registers(rt, &registers)
 }
 
-// Whether a run's budget ran out.
-fn unfinished(answer: RunAnswer) -> bool {
-    match answer {
-        RunAnswer::Ended(ending, steps) => match ending {
-            Ending::Unfinished => true,
-            Ending::Halted => false,
-            Ending::Faulted(no) => false,
-        },
-        RunAnswer::CodeRefused => false,
-        RunAnswer::MemoryRefused => false,
-    }
-}
-
-// A slice of five steps. Whether there is more to do is handed back.
-fn slice(
-    rt: &impl Print,
-    code: &[u32],
-    memory: &mut [u32; 2],
-    place: &mut u32,
-    registers: &mut [u32; 64],
-) -> io::Result<bool> {
-    let answer = machine::run_in_place(code, memory, place, registers, 5);
-    reason::ran(rt, answer, *place)?;
-    Ok(unfinished(answer))
-}
-
-// The same run in slices, at most ten of them.
+// The same run in slices.
 fn slices(rt: &impl Print, code: &[u32]) -> io::Result<()> {
-    let mut memory = [43200u32, 0];
+    let mut memory = MEMORY;
     let mut registers = numbered();
-    let mut place: u32 = 0;
-    text(
-        rt,
-        "\nThe same run in slices of 5 steps, each from the state that the last one left:\n",
+    let mut place = 0;
+    println!(rt;
+        "\nThe same run in slices of {SLICE} steps, each from the state that the last one left:"
     )?;
-    let mut left: u32 = 10;
-    while 0 < left {
-        left -= 1;
-        if !slice(rt, code, &mut memory, &mut place, &mut registers)? {
-            left = 0;
+    for _ in 0..MOST_SLICES {
+        let answer = machine::run_in_place(code, &mut memory, &mut place, &mut registers, SLICE);
+        println!(rt; "    {}", Ran { answer, place })?;
+        if !answer.is_ok_and(|ended| ended.ending == Ending::Unfinished) {
+            break;
         }
     }
-    text(rt, "    memory after:")?;
-    show::memory(rt, &memory)
+    println!(rt; "    memory after:{}", SignedWords(&memory))
 }
 
 // The rule, its declarations, its code, and the runs.
 fn accepted(rt: &impl Print) -> io::Result<()> {
-    let declarations = declared();
-    let nodes = rule_of(CUTOVER);
-    let mut buffer = [0u32; 64];
-    text(rt, "cutover := local - (hours * 3600 + minutes * 60)\n\n")?;
+    println!(rt; "cutover := local - (hours * 3600 + minutes * 60)\n")?;
     show_declarations(rt)?;
-    let n = compiled(rt, &declarations, &nodes, POOL, &mut buffer)?;
-    show_listing(rt, code_of(&buffer, n))?;
-    whole(rt, code_of(&buffer, n))?;
-    slices(rt, code_of(&buffer, n))
+    let mut buffer = [0; WORDS];
+    let code = compiled(rt, CUTOVER, POOL, &mut buffer)?;
+    show_listing(rt, code)?;
+    whole(rt, code)?;
+    slices(rt, code)
 }
 
 // The rule with too few registers, and a rule that assigns a constant.
 fn refused(rt: &impl Print) -> io::Result<()> {
-    let declarations = declared();
-    let mut buffer = [0u32; 64];
-    text(
-        rt,
-        "\nRefused, the same rule with two registers fewer:\n    ",
-    )?;
-    compiled(
-        rt,
-        &declarations,
-        &rule_of(CUTOVER),
-        SMALL_POOL,
-        &mut buffer,
-    )?;
-    text(
-        rt,
-        "Refused, hours := local - (hours * 3600 + minutes * 60):\n    ",
-    )?;
-    compiled(rt, &declarations, &rule_of(HOURS), POOL, &mut buffer)?;
+    let mut buffer = [0; WORDS];
+    print!(rt; "\nRefused, the same rule with two registers fewer:\n    ")?;
+    compiled(rt, CUTOVER, SMALL_POOL, &mut buffer)?;
+    print!(rt; "Refused, hours := local - (hours * 3600 + minutes * 60):\n    ")?;
+    compiled(rt, HOURS, POOL, &mut buffer)?;
     Ok(())
 }
 

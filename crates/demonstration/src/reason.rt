@@ -1,111 +1,86 @@
-// Refusals and endings in words.
-use crate::show::{many, named, text};
-use machine::{Ending, RunAnswer};
-use std::io;
+// A refusal with its reason in words, and what a compilation and a run came to.
+use compiler::Accepted;
+use machine::Ended;
+use refusal::Refusal;
+use std::fmt;
+use wording::{Counted, RunWords};
 
-// What each refusal's number says. 01-scope.md, "Numbered refusals, in order". First those of the tables' sizes, the pool and
-// the declarations, then those of a node row, and then the rest.
-fn of_tables(rt: &impl Print, no: u32) -> io::Result<()> {
-    match no {
-        1 => text(
-            rt,
-            "the table of nodes is empty, too long, or ends within a row",
-        ),
-        2 => text(
-            rt,
-            "the table of declarations is too long, or ends within a row",
-        ),
-        3 => text(rt, "the pool holds $0"),
-        4 => text(rt, "this row is no declaration"),
-        _ => text(rt, "with this row the cells pass 65,536"),
+// A refusal, and the pool that was lent, 0 where none was.
+#[derive(Clone, Copy)]
+pub(crate) struct Refused {
+    refusal: Refusal,
+    pool: u64,
+}
+
+// A refusal where no pool was lent.
+impl From<Refusal> for Refused {
+    fn from(refusal: Refusal) -> Refused {
+        Refused { refusal, pool: 0 }
     }
 }
 
-fn of_row(rt: &impl Print, no: u32) -> io::Result<()> {
-    match no {
-        6 => text(
-            rt,
-            "this row's kind, an unused word or a child's number is wrong",
-        ),
-        7 => text(
-            rt,
-            "an expression stands for a command here, or a command for an expression",
-        ),
-        8 => text(rt, "this row names no declaration"),
-        9 => text(rt, "what this row names is declared as another kind"),
-        _ => text(rt, "this row is not used exactly once"),
+// Its number, what the number returned with it stands for, and its reason.
+impl fmt::Display for Refused {
+    fn fmt<W: fmt::Write>(&self, f: &mut fmt::Formatter<W>) -> fmt::Result {
+        let Refused { refusal, pool } = *self;
+        write!(f, "refusal {}", refusal.number())?;
+        match refusal {
+            Refusal::Declaration(row)
+            | Refusal::Cells(row)
+            | Refusal::Word(row)
+            | Refusal::Sort(row)
+            | Refusal::Name(row)
+            | Refusal::NamedKind(row)
+            | Refusal::Uses(row) => write!(f, ", row {row}")?,
+            Refusal::Registers(need) => {
+                write!(f, ", needed {need}, in the pool {}", pool.count_ones())?
+            }
+            Refusal::Room(instructions) => {
+                write!(f, ", needed {}", Counted(instructions, "instruction"))?
+            }
+            Refusal::Instruction(place) => write!(f, ", instruction {place}")?,
+            Refusal::TextRoom(bytes) => write!(f, ", needed {}", Counted(bytes, "byte"))?,
+            _ => (),
+        }
+        write!(f, ": {refusal}")
     }
 }
 
-fn of_room(rt: &impl Print, no: u32) -> io::Result<()> {
-    match no {
-        11 => text(rt, "too few registers"),
-        12 => text(rt, "the code buffer is too small"),
-        13 => text(rt, "the code is too long, or ends within an instruction"),
-        14 => text(rt, "the memory is too large"),
-        21 => text(
-            rt,
-            "this is no instruction, or its label is outside the code",
-        ),
-        22 => text(rt, "the text is too short"),
-        _ => text(rt, "no refusal has this number"),
-    }
+// What a compilation came to, for a pool.
+#[derive(Clone, Copy)]
+pub(crate) struct Compiled {
+    pub(crate) answer: Result<Accepted, Refusal>,
+    pub(crate) pool: u64,
 }
 
-fn words(rt: &impl Print, no: u32) -> io::Result<()> {
-    match no {
-        1..=5 => of_tables(rt, no),
-        6..=10 => of_row(rt, no),
-        _ => of_room(rt, no),
-    }
-}
-
-// The registers that were needed, and those that there were.
-fn registers(rt: &impl Print, need: u32, pool: u64) -> io::Result<()> {
-    named(rt, ", needed ", need)?;
-    named(rt, ", in the pool ", u64::count_ones(pool))
-}
-
-// What the number returned with a refusal stands for.
-fn returned(rt: &impl Print, no: u32, value: u32, pool: u64) -> io::Result<()> {
-    match no {
-        4..=10 => named(rt, ", row ", value),
-        11 => registers(rt, value, pool),
-        12 => many(rt, ", needed ", value, " instruction"),
-        21 => named(rt, ", instruction ", value),
-        22 => many(rt, ", needed ", value, " byte"),
-        _ => text(rt, ""),
-    }
-}
-
-// A refusal's number, what was returned with it, and its reason.
-pub(crate) fn refusal(rt: &impl Print, no: u32, value: u32, pool: u64) -> io::Result<()> {
-    named(rt, "refusal ", no)?;
-    returned(rt, no, value, pool)?;
-    text(rt, ": ")?;
-    words(rt, no)?;
-    text(rt, "\n")
-}
-
-fn ending(rt: &impl Print, e: Ending) -> io::Result<()> {
-    match e {
-        Ending::Halted => text(rt, "halted"),
-        Ending::Unfinished => text(rt, "unfinished"),
-        Ending::Faulted(no) => named(rt, "fault ", no),
+impl fmt::Display for Compiled {
+    fn fmt<W: fmt::Write>(&self, f: &mut fmt::Formatter<W>) -> fmt::Result {
+        let pool = self.pool;
+        match self.answer {
+            Ok(accepted) => write!(
+                f,
+                "accepted with {}, {} and {} needed",
+                Counted(accepted.instructions, "instruction"),
+                Counted(accepted.cells, "cell"),
+                Counted(accepted.need, "register"),
+            ),
+            Err(refusal) => write!(f, "{}", Refused { refusal, pool }),
+        }
     }
 }
 
 // What a run came to, with the place that it left.
-pub(crate) fn ran(rt: &impl Print, answer: RunAnswer, place: u32) -> io::Result<()> {
-    text(rt, "    ")?;
-    match answer {
-        RunAnswer::Ended(e, steps) => {
-            ending(rt, e)?;
-            many(rt, " after ", steps, " step")?;
-            named(rt, ", at place ", place)?;
-            text(rt, "\n")
+#[derive(Clone, Copy)]
+pub(crate) struct Ran {
+    pub(crate) answer: Result<Ended, Refusal>,
+    pub(crate) place: u32,
+}
+
+impl fmt::Display for Ran {
+    fn fmt<W: fmt::Write>(&self, f: &mut fmt::Formatter<W>) -> fmt::Result {
+        match self.answer {
+            Ok(ended) => write!(f, "{}, at place {}", RunWords(ended), self.place),
+            Err(refusal) => write!(f, "{}", Refused::from(refusal)),
         }
-        RunAnswer::CodeRefused => refusal(rt, 13, 0, 0),
-        RunAnswer::MemoryRefused => refusal(rt, 14, 0, 0),
     }
 }

@@ -1,6 +1,9 @@
 -- Instructions: the operations of source document 000 by the numbers of 01-scope.md, how their words are written, and code as words.
-use Rattle.std.specs.Prelude.{Bool, true, false, cond, ◌&&◌, List, [], ◌∷◌, ◌++◌, ℕ, ◌+◌, ◌*◌, ◌/◌, ◌%◌, eqb, ltb, leb, length, get_or}
+use Rattle.std.specs.Prelude.{◌≡◌, Bool, true, false, cond, ◌&&◌, List, [], ◌∷◌, ◌++◌, ℕ, ◌+◌, ◌*◌, ◌/◌, ◌%◌, ◌<◌, eqb, ltb, leb, length, get_or, Result, MatchResult}
 use Prim.Native.String.{String}
+use Rattle.instruction.specs.declared.Operation.{Operation as Coded}
+use Rattle.instruction.specs.declared.Operation.TheVariants as coded
+use Rattle.instruction.specs.declared.UnknownOperation.{UnknownOperation}
 use Rattle.instruction.specs.declared.Form.{Form}
 use Rattle.instruction.specs.declared.Form.TheVariants.{Unknown, Bare, Registers, Immediate, Load, Store, Jump, Branch}
 
@@ -40,6 +43,25 @@ beq = 10
 
 abbrev pub slt : ℕ
 slt = 11
+
+-- the number of an operation of the code
+abbrev pub operation_number : Coded → ℕ
+operation_number coded.Halt = halt
+operation_number coded.Nop = nop
+operation_number coded.Add = add
+operation_number coded.Addi = addi
+operation_number coded.Sub = sub
+operation_number coded.Mul = mul
+operation_number coded.Load = load
+operation_number coded.Store = store
+operation_number coded.Jmp = jmp
+operation_number coded.Bne = bne
+operation_number coded.Beq = beq
+operation_number coded.Slt = slt
+
+-- what is read from a number: the operation that has it, or the number again where it is above the last operation's
+abbrev pub Numbered : ℕ → Result Coded UnknownOperation → Type 0
+Numbered n r = MatchResult r (λ o. operation_number o ≡ n) (λ e. (e.0 ≡ n) × (slt < n))
 
 -- what one of an instruction's three words is
 pub data Class : Type 0 where

@@ -1,6 +1,6 @@
 -- What `list` answers and leaves, check by check: refusal 13, then 21, and then the room alone decides.
 -- Assumes nothing.
-use mathlib.Core.Path.{◌≡◌, refl, sym, ap}
+use mathlib.Core.Path.{◌≡◌, refl, sym, ap, ◌∙◌}
 use mathlib.Core.Bool.{Bool, true, false, cond, not}
 use mathlib.Core.List.{List}
 use Prim.Native.Nat.{ℕ, ◌<◌, ◌≤◌}
@@ -8,9 +8,7 @@ use native.Mathlib.Omega.{arith}
 use lib.Dec.{leb}
 use lib.ListN.{length}
 use borrow.Author.Tests.{le-leb, lt-leb, leb-true}
-use Rattle.refusal.specs.declared.Verdict.{Verdict}
-use Rattle.refusal.specs.declared.Verdict.TheVariants.{Passes, Refuses}
-use Rattle.refusal.specs.Refusal.{laid_over}
+use Rattle.refusal.specs.Refusal.{Verdict, Passes, Refuses, ◌and_then◌, laid_over}
 use Rattle.refusal.proofs.Scans.{scan_all, scan_passes}
 use Rattle.instruction.specs.Instruction.{fetch, count_of, taken}
 use Rattle.listing.specs.Listing.{Said, sound, code_words, instructions, room_for, verdict, listed, refused, said_as, answered, text_as, leaves, listing}
@@ -58,14 +56,27 @@ module _ (code text : List ℕ) where
   unfolding answered leaves
   answer_as v e = let a = ap (said_as (length (listing code))) e in record { said = a; left = ap (text_as (listing code) text) a }
 
+  -- the code alone decides
+  pub refused_by_code : (n k : ℕ) → (code_words (length code) and_then instructions code) ≡ Refuses n k → Answer code text (refused n k) text
+  unfolding verdict
+  refused_by_code n k e = answer_as (Refuses n k) (chained (code_words (length code)) ∙ ap (λ (v : Verdict). v and_then room_for (length (listing code)) (length text)) e)
+    where
+      chained : (v : Verdict) → (v and_then (instructions code and_then room_for (length (listing code)) (length text)))
+          ≡ ((v and_then instructions code) and_then room_for (length (listing code)) (length text))
+      chained Passes = refl
+      chained (Refuses m l) = refl
+
+  pub left_by_code : (n k : ℕ) → (code_words (length code) and_then instructions code) ≡ Refuses n k → text ≡ leaves code text
+  left_by_code n k e = sym (refused_by_code n k e).left
+
   pub not_taken : taken (length code) ≡ false → Answer code text (refused 13 0) text
-  unfolding verdict code_words
-  not_taken t = answer_as (Refuses 13 0) (rw t)
+  unfolding code_words
+  not_taken t = refused_by_code 13 0 (rw t)
 
   module _ (t : taken (length code) ≡ true) where
     pub not_sound : (n k : ℕ) → instructions code ≡ Refuses n k → Answer code text (refused n k) text
-    unfolding verdict code_words
-    not_sound n k e = answer_as (Refuses n k) (rw (t, e))
+    unfolding code_words
+    not_sound n k e = refused_by_code n k (rw (t, e))
 
     module _ (e : instructions code ≡ Passes) where
       -- the room's verdict decides

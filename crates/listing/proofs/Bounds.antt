@@ -13,7 +13,7 @@ use Rattle.decimal.specs.Decimal.{numeral}
 use Rattle.decimal.proofs.Numerals.{numeral_short, numeral_within}
 use Rattle.instruction.specs.declared.Form.{Form}
 use Rattle.instruction.specs.declared.Form.TheVariants.{Unknown, Bare, Registers, Immediate, Load, Store, Jump, Branch}
-use Rattle.instruction.specs.Instruction.{ins, Operation, operation, operations, operation_of, mnemonic_of, form_of, operands_of, fits, formed}
+use Rattle.instruction.specs.Instruction.{Instruction, ins, Operation, operation, operations, operation_of, mnemonic_of, form_of, operands_of, fits, formed}
 use Rattle.instruction.proofs.Forms.{and_true, registers_below}
 use Rattle.listing.specs.Line.{register_word, address_word, label_word, label_part, operand_words, blanked, instruction_line}
 use Rattle.listing.specs.Listing.{named_by, target_of, inside}
@@ -134,10 +134,10 @@ part_short : (t : Bool) (p : ℕ) → p < most → length (label_part t p) ≤ 8
 part_short true p h = omega (arith, length-append (label_word p) (bytes ": "), label_short p h)
 part_short false p h = omega arith
 
-pub line_short : (t : Bool) (n p o a b c : ℕ) → n ≤ most → p < most → formed (ins o a b c) ≡ true → inside n (target_of (ins o a b c)) ≡ true
-    → length (label_part t p ++ instruction_line (ins o a b c)) ≤ longest
+pub line_short : (t : Bool) (n p : ℕ) (x : Instruction) → n ≤ most → p < most → formed x ≡ true → inside n (target_of x) ≡ true
+    → length (label_part t p ++ instruction_line x) ≤ longest
 unfolding instruction_line formed
-line_short t n p o a b c m h e i =
+line_short t n p (ins o a b c) m h e i =
     let w : List ℕ = blanked (operand_words (form_of (operation_of o)) a b c) in
     let k : List ℕ = bytes (mnemonic_of (operation_of o)) in
     omega (

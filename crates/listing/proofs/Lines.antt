@@ -1,18 +1,20 @@
--- The lines of sound code: which they are, and that more of them are longer.
+-- The lines of a code: what four words are, and that more lines are longer.
 -- Assumes nothing.
 use mathlib.Core.Path.{◌≡◌, refl, sym, ap, ◌∙◌}
 use mathlib.Core.Logic.{⊎_elim}
-use mathlib.Core.Bool.{Bool, true, false, cond}
+use mathlib.Core.Bool.{Bool, true, false, cond, true≢false}
 use mathlib.Core.List.{List, ◌++◌}
 use Prim.Native.Nat.{ℕ, zero, suc, ◌+◌, ◌*◌, ◌<◌, ◌≤◌}
 use native.Mathlib.Nat.{eq-or-lt_of_le}
 use native.Mathlib.Omega.{arith}
 use lib.ListN.{length, get_or, length-append}
 use borrow.Author.Tests.{lt-ltb}
-use Rattle.instruction.specs.Instruction.{ins, found, unknown, formed, decode, fetch, count_of}
-use Rattle.instruction.proofs.Forms.{decode_back}
-use Rattle.listing.specs.Line.{label_part, instruction_line}
-use Rattle.listing.specs.Listing.{target_of, inside, sound, line_of, line, lines, named_in}
+use Rattle.std.specs.Prelude.{Result, Ok, Err, IsOk}
+use Rattle.instruction.specs.declared.Operation.{Operation}
+use Rattle.instruction.specs.declared.UnknownOperation.{UnknownOperation}
+use Rattle.instruction.specs.Instruction.{ins, found, unknown, formed, fits, operands_of, form_of, Operation as Row, Numbered, decode, fetch, count_of}
+use Rattle.instruction.proofs.Forms.{no_operation}
+use Rattle.listing.specs.Listing.{sound, line, lines}
 
 -- the words at a place of the code are what is fetched from it
 pub fetch_words : (code : List ℕ) (p : ℕ) → p < count_of code
@@ -20,26 +22,20 @@ pub fetch_words : (code : List ℕ) (p : ℕ) → p < count_of code
 unfolding fetch
 fetch_words code p h = rw (lt-ltb p (count_of code) h)
 
--- four words that are sound are a formed instruction, and its label is inside
-module _ (n o a b c : ℕ) (s : sound n (decode o a b c) ≡ true) where
-  pub sound_formed : formed (ins o a b c) ≡ true
-  unfolding decode
-  sound_formed = go (formed (ins o a b c)) s
-    where
-      go : (t : Bool) → sound n (cond t (found (ins o a b c)) unknown) ≡ true → t ≡ true
-      go true e = refl
-      go false e = e
+-- four words that are sound are a formed instruction
+pub sound_formed : (n o a b c : ℕ) → sound n (decode o a b c) ≡ true → formed (ins o a b c) ≡ true
+unfolding decode
+sound_formed n o a b c s = go (formed (ins o a b c)) s
+  where
+    go : (t : Bool) → sound n (cond t (found (ins o a b c)) unknown) ≡ true → t ≡ true
+    go true e = refl
+    go false e = e
 
-  pub sound_found : decode o a b c ≡ found (ins o a b c)
-  sound_found = decode_back o a b c sound_formed
-
-  pub sound_inside : inside n (target_of (ins o a b c)) ≡ true
-  sound_inside = ap (sound n) (sym sound_found) ∙ s
-
--- so its line is that instruction's
-pub line_found : (code : List ℕ) (p o a b c : ℕ) → decode o a b c ≡ fetch code p → sound (count_of code) (decode o a b c) ≡ true
-    → line code p ≡ label_part (named_in code (count_of code) p) p ++ instruction_line (ins o a b c)
-line_found code p o a b c e s = ap (line_of (named_in code (count_of code) p) p) (sym e ∙ sound_found (count_of code) o a b c s)
+-- so the first of them is an operation's number
+pub an_operation : (n a b c : ℕ) (r : Result Operation UnknownOperation) → Numbered n r → formed (ins n a b c) ≡ true → IsOk r
+unfolding formed
+an_operation n a b c (Ok o) e f = refl
+an_operation n a b c (Err u) e f = absurd (true≢false (sym f ∙ ap (λ (x : Row). fits (operands_of (form_of x)) a b c) (no_operation n (omega arith))))
 
 pub lines_next : (code : List ℕ) (p : ℕ) → lines code (p + 1) ≡ lines code p ++ line code p
 unfolding lines

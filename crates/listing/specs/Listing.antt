@@ -1,34 +1,29 @@
 -- The listing of a code, what `list` answers and what it leaves in the text. 02-change-requests.md, Item 1.
-use Rattle.std.specs.Prelude.{Bool, true, false, cond, not, ◌||◌, List, [], ◌++◌, ℕ, zero, suc, eqb, ltb, leb, length}
-use Rattle.refusal.specs.declared.Verdict.{Verdict}
-use Rattle.refusal.specs.declared.Verdict.TheVariants.{Passes, Refuses}
-use Rattle.refusal.specs.Refusal.{◌and_then◌, first_refused, laid_over}
+use Rattle.std.specs.Prelude.{Bool, true, false, cond, not, ◌||◌, List, [], ◌++◌, ℕ, zero, suc, eqb, ltb, leb, length, Option, Some, None, Result, Ok, Err}
+use Rattle.refusal.specs.declared.Refusal.{Refusal}
+use Rattle.refusal.specs.Refusal.{Verdict, Passes, Refuses, number_of, value_of, ◌and_then◌, first_refused, laid_over}
 use Rattle.instruction.specs.declared.Form.{Form}
 use Rattle.instruction.specs.declared.Form.TheVariants.{Unknown, Bare, Registers, Immediate, Load, Store, Jump, Branch}
 use Rattle.instruction.specs.Instruction.{Instruction, ins, operation_of, form_of, Fetched, outside, unknown, found, fetch, count_of, taken}
-use Rattle.listing.specs.declared.Target.{Target}
-use Rattle.listing.specs.declared.Target.TheVariants.{Nowhere, To}
-use Rattle.listing.specs.declared.ListAnswer.{ListAnswer}
-use Rattle.listing.specs.declared.ListAnswer.TheVariants.{Listed, Refused}
 use Rattle.listing.specs.Line.{label_part, instruction_line}
 
 -- the label that an instruction names, if it is a jump: "any label", whether or not the jump would be taken
-abbrev pub named_by : Form → ℕ → ℕ → ℕ → Target
-named_by Unknown a b c = Nowhere
-named_by Bare a b c = Nowhere
-named_by Registers a b c = Nowhere
-named_by Immediate a b c = Nowhere
-named_by Load a b c = Nowhere
-named_by Store a b c = Nowhere
-named_by Jump l b c = To l
-named_by Branch a b l = To l
+abbrev pub named_by : Form → ℕ → ℕ → ℕ → Option ℕ
+named_by Unknown a b c = None
+named_by Bare a b c = None
+named_by Registers a b c = None
+named_by Immediate a b c = None
+named_by Load a b c = None
+named_by Store a b c = None
+named_by Jump l b c = Some l
+named_by Branch a b l = Some l
 
-abbrev pub target_of : Instruction → Target
+abbrev pub target_of : Instruction → Option ℕ
 target_of (ins o a b c) = named_by (form_of (operation_of o)) a b c
 
-abbrev pub leads_to : Target → ℕ → Bool
-leads_to Nowhere p = false
-leads_to (To l) p = eqb l p
+abbrev pub leads_to : Option ℕ → ℕ → Bool
+leads_to None p = false
+leads_to (Some l) p = eqb l p
 
 abbrev pub jumps_to : Fetched → ℕ → Bool
 jumps_to outside p = false
@@ -62,9 +57,9 @@ unfoldable pub code_words : ℕ → Verdict
 code_words words = cond (taken words) Passes (Refuses 13 0)
 
 -- not "a fault 2 form, or any label outside the code", which has n instructions
-abbrev pub inside : ℕ → Target → Bool
-inside n Nowhere = true
-inside n (To l) = ltb l n
+abbrev pub inside : ℕ → Option ℕ → Bool
+inside n None = true
+inside n (Some l) = ltb l n
 
 abbrev pub sound : ℕ → Fetched → Bool
 sound n outside = false
@@ -88,9 +83,9 @@ pub data Said : Type 0 where
   listed : ℕ → Said
   refused : ℕ → ℕ → Said
 
-abbrev pub list_said : ListAnswer → Said
-list_said (Listed n) = listed n
-list_said (Refused n v) = refused n v
+abbrev pub list_said : Result ℕ Refusal → Said
+list_said (Ok n) = listed n
+list_said (Err r) = refused (number_of r) (value_of r)
 
 abbrev pub said_as : ℕ → Verdict → Said
 said_as n Passes = listed n

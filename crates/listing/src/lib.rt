@@ -1,216 +1,117 @@
 // The listing of a code, in the notation of source document 000, written into a text that is lent.
 #![tactic(auto)]
 
+mod code;
 mod line;
 
-ghost use Rattle.std.specs.Prelude.{◌≡◌, true, ◌++◌, ◌<◌, ◌≤◌, length};
-ghost use Rattle.refusal.specs.Refusal.{laid_over};
-ghost use Rattle.instruction.specs.Instruction.{ins, decode, fetch, count_of, taken};
-ghost use Rattle.listing.specs.Line.{label_part, instruction_line};
-ghost use Rattle.listing.specs.Listing.{target_of, inside, sound as sound_of, listing, instructions, room_for, list_said, answered, leaves};
-ghost use Rattle.listing.specs.Inside.{most, longest, marked, Sound, Room, Marked};
+ghost use Rattle.std.specs.Prelude.{◌≡◌, ◌<◌, ◌≤◌, length};
+ghost use Rattle.refusal.specs.Refusal.{verdict_of, laid_over};
+ghost use Rattle.instruction.specs.Instruction.{count_of};
+ghost use Rattle.listing.specs.Listing.{line as line_of, listing, room_for, list_said, answered, leaves};
+ghost use Rattle.listing.specs.Inside.{line_text, Marked};
 
-use instruction::Form;
-use refusal::Verdict;
+use code::{Code, WORDS};
+use line::{LONGEST, Line, Text};
+use refusal::Refusal;
 
 // The most instructions of a code.
-const MOST: usize = instruction::MOST_WORDS / 4;
+const MOST: usize = instruction::MOST_WORDS / WORDS;
 
-// The most bytes of a line: "L65535: addi $63 -2147483648 $63" and the newline.
-const LONGEST: usize = 33;
-
-// The label that an instruction names, if it is a jump.
+// Code, and which of its places some jump names. The marks lie beside the code, which is lent to be read: nothing is allocated.
 #[derive(Clone, Copy)]
-pub enum Target {
-    Nowhere,
-    To(u32),
+struct Listing<'a> {
+    code: &'a Code<'a>,
+    marks: &'a [bool; MOST],
+    ghost marked: { Marked code.now.words.now (count_of code.now.words.now) marks.now },
 }
 
-// The four words of an instruction.
-#[derive(Clone, Copy)]
-struct Words {
-    op: u32,
-    a: u32,
-    b: u32,
-    c: u32,
-}
-
-// What `list` answers: the bytes written, or a refusal's number and the number returned with it.
-#[derive(Clone, Copy)]
-pub enum ListAnswer {
-    Listed(u32),
-    Refused(u32, u32),
-}
-
-// The label that an instruction names.
-fn named_by(op: u32, a: u32, b: u32, c: u32) -> Target
-    ensures { result ≡ target_of (ins op a b c) }
+// Marks the labels that jumps name.
+fn mark(code: &Code, marks: &mut [bool; MOST])
+    requires { Marked code.now.words.now 0 marks.old }
+    ensures { Marked code.now.words.now (count_of code.now.words.now) marks.new }
 {
-    let form = instruction::form_of(op);
-    match form {
-        Form::Jump => Target::To(a),
-        Form::Branch => Target::To(c),
-        Form::Unknown => Target::Nowhere,
-        Form::Bare => Target::Nowhere,
-        Form::Registers => Target::Nowhere,
-        Form::Immediate => Target::Nowhere,
-        Form::Load => Target::Nowhere,
-        Form::Store => Target::Nowhere,
-    }
-}
-
-// Whether four words are an instruction that names no label outside a code of so many instructions.
-fn sound(count: usize, op: u32, a: u32, b: u32, c: u32) -> bool
-    ensures { result ≡ sound_of count (decode op a b c) }
-{
-    if !instruction::formed(op, a, b, c) {
-        return false;
-    }
-    let to = named_by(op, a, b, c);
-    match to {
-        Target::Nowhere => true,
-        Target::To(l) => (l as usize) < count,
-    }
-}
-
-// The four words of an instruction.
-fn words_at(code: &[u32], place: usize) -> Words
-    requires { place < count_of code.now }
-    ensures { decode result.op result.a result.b result.c ≡ fetch code.now place }
-{
-    let at = place * 4;
-    Words {
-        op: code[at],
-        a: code[at + 1],
-        b: code[at + 2],
-        c: code[at + 3],
-    }
-}
-
-// Refusal 21.
-fn check_instructions(code: &[u32]) -> Verdict
-    requires { taken (length code.now) ≡ true }
-    ensures { result ≡ instructions code.now }
-{
-    let count = code.len() / 4;
-    let mut p = 0;
-    while p < count {
-        let w = words_at(code, p);
-        if !sound(count, w.op, w.a, w.b, w.c) {
-            return Verdict::Refuses(21, p as u32);
-        }
-        p += 1;
-    }
-    Verdict::Passes
-}
-
-// Sets the mark of a label.
-fn set_mark(marks: &mut [bool; MOST], to: Target)
-    requires { inside most to ≡ true }
-    ensures { marks.new ≡ marked to marks.old }
-{
-    match to {
-        Target::Nowhere => {}
-        Target::To(l) => {
-            marks[l as usize] = true;
+    'instructions: for place in 0..code.count() {
+        if let Some(label) = code::named_by(code.instruction(place)) {
+            marks[label as usize] = true;
         }
     }
 }
 
-// Sets the marks of all labels that jumps name.
-fn mark(code: &[u32], marks: &mut [bool; MOST])
-    requires { Sound code.now × Marked code.now 0 marks.old }
-    ensures { Marked code.now (count_of code.now) marks.new }
-{
-    let mut p = 0;
-    while p < code.len() / 4 {
-        let w = words_at(code, p);
-        set_mark(marks, named_by(w.op, w.a, w.b, w.c));
-        p += 1;
+impl Listing<'_> {
+    // The line of a place.
+    #[tactic(auto, using(crate::proofs::Marks::few, crate::proofs::Marks::marked_line))]
+    fn line(&self, place: usize) -> Line
+        requires { place < count_of self.now.code.now.words.now }
+        ensures { line_text result ≡ line_of self.now.code.now.words.now place }
+    {
+        Line {
+            named: self.marks[place],
+            place: place as u32,
+            instruction: self.code.instruction(place),
+        }
     }
-}
 
-// How long the line of an instruction is: as long as what is written of it.
-fn width(named: bool, place: u32, op: u32, a: u32, b: u32, c: u32) -> usize
-    requires { length (label_part named place ++ instruction_line (ins op a b c)) ≤ longest }
-    ensures { result ≡ length (label_part named place ++ instruction_line (ins op a b c)) }
-{
-    let mut text = [0u8; LONGEST];
-    line::write(&mut text, 0, named, place, op, a, b, c)
-}
+    // The length of the listing.
+    #[tactic(auto, using(crate::proofs::Marks::few, crate::proofs::Marks::short_line, crate::proofs::Marks::lines_short, crate::proofs::Lines::lines_next), unfolding(crate::specs::Listing::lines))]
+    fn measure(&self) -> usize
+        ensures { result ≡ length (listing self.now.code.now.words.now) }
+    {
+        let mut total = 0;
+        'lines: for place in 0..self.code.count() {
+            total += self.line(place).width();
+        }
+        total
+    }
 
-// The length of the listing.
-fn measure(code: &[u32], marks: &[bool; MOST]) -> usize
-    requires { Sound code.now × Marked code.now (count_of code.now) marks.now }
-    ensures { result ≡ length (listing code.now) }
-{
-    let mut total = 0;
-    let mut p = 0;
-    while p < code.len() / 4 {
-        let w = words_at(code, p);
-        total += width(marks[p], p as u32, w.op, w.a, w.b, w.c);
-        p += 1;
+    // Refusal 22. A text with room for the longest line, as often as there are lines, is not measured against them.
+    #[tactic(auto, using(crate::proofs::Marks::few, crate::proofs::Marks::listing_short, crate::proofs::Answers::enough_room, crate::proofs::Answers::no_room))]
+    fn check_room(&self, room: usize) -> Result<(), Refusal>
+        ensures { verdict_of result ≡ room_for (length (listing self.now.code.now.words.now)) room }
+    {
+        if self.code.count() * LONGEST <= room {
+            return Ok(());
+        }
+        let needed = self.measure();
+        if room < needed {
+            return Err(Refusal::TextRoom(needed as u32));
+        }
+        Ok(())
     }
-    total
-}
 
-// Refusal 22. A text with room for the longest line, as often as there are lines, is not measured against them.
-fn check_room(code: &[u32], marks: &[bool; MOST], room: usize) -> Verdict
-    requires { Sound code.now × Marked code.now (count_of code.now) marks.now }
-    ensures { result ≡ room_for (length (listing code.now)) room }
-{
-    if code.len() / 4 * LONGEST <= room {
-        return Verdict::Passes;
+    // Writes the listing, and gives its length.
+    fn write(&self, text: &mut [u8]) -> usize
+        requires { length (listing self.now.code.now.words.now) ≤ length text.old }
+        ensures length { result ≡ length (listing self.now.code.now.words.now) }
+        ensures text { text.new ≡ laid_over (listing self.now.code.now.words.now) text.old }
+    {
+        let mut written = Text { bytes: text, at: 0 };
+        'lines: for place in 0..self.code.count() {
+            written.line(self.line(place));
+        }
+        written.at
     }
-    let needed = measure(code, marks);
-    if room < needed {
-        return Verdict::Refuses(22, needed as u32);
-    }
-    Verdict::Passes
-}
-
-// Writes the listing, and gives its length.
-fn write(code: &[u32], marks: &[bool; MOST], text: &mut [u8]) -> usize
-    requires { Sound code.now × Marked code.now (count_of code.now) marks.now × Room text.old 0 (listing code.now) }
-    ensures length { result ≡ length (listing code.now) }
-    ensures text { text.new ≡ laid_over (listing code.now) text.old }
-{
-    let mut at = 0;
-    let mut p = 0;
-    while p < code.len() / 4 {
-        let w = words_at(code, p);
-        at = line::write(text, at, marks[p], p as u32, w.op, w.a, w.b, w.c);
-        p += 1;
-    }
-    at
 }
 
 // The listing of sound code, if there is room for it.
-fn print(code: &[u32], text: &mut [u8]) -> ListAnswer
-    requires { Sound code.now }
-    ensures answer { list_said result ≡ answered code.now (length text.old) }
-    ensures text { text.new ≡ leaves code.now text.old }
+fn print(code: &Code, text: &mut [u8]) -> Result<u32, Refusal>
+    ensures answer { list_said result ≡ answered code.now.words.now (length text.old) }
+    ensures text { text.new ≡ leaves code.now.words.now text.old }
 {
     let mut marks = [false; MOST];
     mark(code, &mut marks);
-    let checked = check_room(code, &marks, text.len());
-    match checked {
-        Verdict::Refuses(number, value) => ListAnswer::Refused(number, value),
-        Verdict::Passes => ListAnswer::Listed(write(code, &marks, text) as u32),
-    }
+    let listing = Listing {
+        code,
+        marks: &marks,
+    };
+    listing.check_room(text.len())?;
+    Ok(listing.write(text) as u32)
 }
 
 // Writes the listing of the code over the front of the text. Answers the bytes written, or a refusal, which leaves the text as it was.
-pub fn list(code: &[u32], text: &mut [u8]) -> ListAnswer
+#[tactic(auto, using(crate::proofs::Answers::refused_by_code, crate::proofs::Answers::left_by_code))]
+pub fn list(code: &[u32], text: &mut [u8]) -> Result<u32, Refusal>
     ensures answer { list_said result ≡ answered code.now (length text.old) }
     ensures text { text.new ≡ leaves code.now text.old }
 {
-    if !instruction::taken(code.len()) {
-        return ListAnswer::Refused(13, 0);
-    }
-    let checked = check_instructions(code);
-    match checked {
-        Verdict::Refuses(number, value) => ListAnswer::Refused(number, value),
-        Verdict::Passes => print(code, text),
-    }
+    print(&Code::checked(code)?, text)
 }

@@ -1,171 +1,179 @@
-// One line of a listing, written into a part of a text.
-ghost use Rattle.std.specs.Prelude.{[], ◌∷◌, ◌++◌};
+// One line of a listing, written into a text.
+ghost use Rattle.std.specs.Prelude.{◌≡◌, [], ◌∷◌, ◌++◌, ◌≤◌, length};
 ghost use Rattle.decimal.specs.Decimal.{numeral};
 ghost use Rattle.decimal.specs.Bytes.{bytes as bytes_of};
-ghost use Rattle.instruction.specs.Instruction.{ins, operation_of, mnemonic_of};
-ghost use Rattle.instruction.specs.declared.Form.TheVariants.{Immediate, Load, Store};
-ghost use Rattle.listing.specs.Line.{address_word, operand_words, blanked, instruction_line, label_part};
-ghost use Rattle.listing.specs.Inside.{Room, Wrote};
+ghost use Rattle.instruction.specs.Instruction.{operation_of, operation_number, mnemonic_of};
+ghost use Rattle.listing.specs.Line.{register_word, address_word, label_word, label_part};
+ghost use Rattle.listing.specs.Inside.{Room, Wrote, longest, operands_text, line_text};
 
-use instruction::Form;
+use instruction::{Form, Instruction, Operation};
 
-// Writes bytes from a place on, and gives the place after them: so do all below.
-fn put(text: &mut [u8], at: usize, bytes: &[u8]) -> usize
-    requires { Room text.old at bytes.now }
-    ensures { Wrote text.old text.new at result bytes.now }
-{
-    let mut i = 0;
-    while i < bytes.len() {
-        text[at + i] = bytes[i];
-        i += 1;
-    }
-    at + i
+// The most bytes of a line: "L65535: addi $63 -2147483648 $63" and the newline.
+pub(crate) const LONGEST: usize = 33;
+
+// A line: an instruction, its place in the code, and whether some jump names it.
+#[derive(Clone, Copy)]
+pub(crate) struct Line {
+    pub(crate) named: bool,
+    pub(crate) place: u32,
+    pub(crate) instruction: Instruction,
 }
 
-// A byte: quicker than a run of one.
-fn byte(text: &mut [u8], at: usize, x: u8) -> usize
-    requires { Room text.old at (x ∷ []) }
-    ensures { Wrote text.old text.new at result (x ∷ []) }
-{
-    text[at] = x;
-    at + 1
-}
-
-// A number after a byte.
-fn number(text: &mut [u8], at: usize, x: u8, word: u32) -> usize
-    requires { Room text.old at (x ∷ numeral word) }
-    ensures { Wrote text.old text.new at result (x ∷ numeral word) }
-{
-    let from = byte(text, at, x);
-    from + decimal::write(text, from, word)
-}
-
-// An operand: a number after two bytes, " $1", " L3" or "[$0".
-fn operand(text: &mut [u8], at: usize, x: u8, y: u8, word: u32) -> usize
-    requires { Room text.old at (x ∷ y ∷ numeral word) }
-    ensures { Wrote text.old text.new at result (x ∷ y ∷ numeral word) }
-{
-    let from = byte(text, at, x);
-    number(text, from, y, word)
-}
-
-// The mnemonic of an operation.
-fn mnemonic(text: &mut [u8], at: usize, op: u32) -> usize
-    requires { Room text.old at (bytes_of (mnemonic_of (operation_of op))) }
-    ensures { Wrote text.old text.new at result (bytes_of (mnemonic_of (operation_of op))) }
-{
-    match op {
-        instruction::HALT => put(text, at, b"halt"),
-        instruction::NOP => put(text, at, b"nop"),
-        instruction::ADD => put(text, at, b"add"),
-        instruction::ADDI => put(text, at, b"addi"),
-        instruction::SUB => put(text, at, b"sub"),
-        instruction::MUL => put(text, at, b"mul"),
-        instruction::LOAD => put(text, at, b"load"),
-        instruction::STORE => put(text, at, b"store"),
-        instruction::JMP => put(text, at, b"jmp"),
-        instruction::BNE => put(text, at, b"bne"),
-        instruction::BEQ => put(text, at, b"beq"),
-        instruction::SLT => put(text, at, b"slt"),
-        _ => at,
+impl Line {
+    // How long the line is: as long as what is written of it.
+    pub(crate) fn width(self) -> usize
+        requires { length (line_text self) ≤ longest }
+        ensures { result ≡ length (line_text self) }
+    {
+        let mut bytes = [0u8; LONGEST];
+        let mut text = Text {
+            bytes: &mut bytes,
+            at: 0,
+        };
+        text.line(self);
+        text.at
     }
 }
 
-// " $1 $2 $3", or " $1 $2 L3" with L for the mark.
-fn registers(text: &mut [u8], at: usize, a: u32, b: u32, mark: u8, c: u32) -> usize
-    requires { Room text.old at ((bytes_of " $" ++ numeral a) ++ ((bytes_of " $" ++ numeral b) ++ (bytes_of " " ++ (mark ∷ numeral c)))) }
-    ensures { Wrote text.old text.new at result ((bytes_of " $" ++ numeral a) ++ ((bytes_of " $" ++ numeral b) ++ (bytes_of " " ++ (mark ∷ numeral c)))) }
-{
-    let second = operand(text, at, b' ', b'$', a);
-    let third = operand(text, second, b' ', b'$', b);
-    operand(text, third, b' ', mark, c)
+// A text that is written from its front, and the place after what is written of it.
+#[derive(Drop)]
+pub(crate) struct Text<'a> {
+    pub(crate) bytes: &'a mut [u8],
+    pub(crate) at: usize,
 }
 
-// " $1 -2 $3"
-fn immediate(text: &mut [u8], at: usize, a: u32, n: u32, c: u32) -> usize
-    requires { Room text.old at (blanked (operand_words Immediate a n c)) }
-    ensures { Wrote text.old text.new at result (blanked (operand_words Immediate a n c)) }
-{
-    let second = operand(text, at, b' ', b'$', a);
-    let third = number(text, second, b' ', n);
-    operand(text, third, b' ', b'$', c)
-}
-
-// " $2[$0]"
-fn address(text: &mut [u8], at: usize, b: u32, i: u32) -> usize
-    requires { Room text.old at (bytes_of " " ++ address_word b i) }
-    ensures { Wrote text.old text.new at result (bytes_of " " ++ address_word b i) }
-{
-    let second = operand(text, at, b' ', b'$', b);
-    let end = operand(text, second, b'[', b'$', i);
-    byte(text, end, b']')
-}
-
-// " $1 $2[$0]"
-fn load(text: &mut [u8], at: usize, a: u32, b: u32, i: u32) -> usize
-    requires { Room text.old at (blanked (operand_words Load a b i)) }
-    ensures { Wrote text.old text.new at result (blanked (operand_words Load a b i)) }
-{
-    let second = operand(text, at, b' ', b'$', a);
-    address(text, second, b, i)
-}
-
-// " $2[$0] $1"
-fn store(text: &mut [u8], at: usize, b: u32, i: u32, a: u32) -> usize
-    requires { Room text.old at (blanked (operand_words Store b i a)) }
-    ensures { Wrote text.old text.new at result (blanked (operand_words Store b i a)) }
-{
-    let second = address(text, at, b, i);
-    operand(text, second, b' ', b'$', a)
-}
-
-// The words after the mnemonic, each after a blank.
-fn operands(text: &mut [u8], at: usize, form: Form, a: u32, b: u32, c: u32) -> usize
-    requires { Room text.old at (blanked (operand_words form a b c)) }
-    ensures { Wrote text.old text.new at result (blanked (operand_words form a b c)) }
-{
-    match form {
-        Form::Unknown => at,
-        Form::Bare => at,
-        Form::Registers => registers(text, at, a, b, b'$', c),
-        Form::Immediate => immediate(text, at, a, b, c),
-        Form::Load => load(text, at, a, b, c),
-        Form::Store => store(text, at, a, b, c),
-        Form::Jump => operand(text, at, b' ', b'L', a),
-        Form::Branch => registers(text, at, a, b, b'L', c),
+impl<'a> Text<'a> {
+    // A run of bytes. One by one: `copy_from_slice` becomes a call of memmove, and the C library asks for memcpy and memset alone.
+    fn put(&mut self, bytes: &[u8])
+        requires { Room self.old bytes.now }
+        ensures { Wrote self.old self.new bytes.now }
+    {
+        let at = self.at;
+        let text = &mut *self.bytes;
+        'bytes: for (i, byte) in bytes.iter().enumerate() {
+            text[at + i] = *byte;
+        }
+        self.at = at + bytes.len();
     }
-}
 
-// "L7: ", of a line that is named.
-fn label(text: &mut [u8], at: usize, named: bool, place: u32) -> usize
-    requires { Room text.old at (label_part named place) }
-    ensures { Wrote text.old text.new at result (label_part named place) }
-{
-    if named {
-        let end = number(text, at, b'L', place);
-        let blank = byte(text, end, b':');
-        return byte(text, blank, b' ');
+    // A number. By crate decimal: of `write!` a contract says what an Ok has written, and not that it is Ok where there is room.
+    fn number(&mut self, word: u32)
+        requires { Room self.old (numeral word) }
+        ensures { Wrote self.old self.new (numeral word) }
+    {
+        self.at += decimal::write(self.bytes, self.at, word).unwrap();
     }
-    at
-}
 
-// The line of an instruction.
-pub(crate) fn write(
-    text: &mut [u8],
-    at: usize,
-    named: bool,
-    place: u32,
-    op: u32,
-    a: u32,
-    b: u32,
-    c: u32,
-) -> usize
-    requires { Room text.old at (label_part named place ++ instruction_line (ins op a b c)) }
-    ensures { Wrote text.old text.new at result (label_part named place ++ instruction_line (ins op a b c)) }
-{
-    let start = label(text, at, named, place);
-    let first = mnemonic(text, start, op);
-    let form = instruction::form_of(op);
-    let end = operands(text, first, form, a, b, c);
-    byte(text, end, b'\n')
+    // " $1". Inlined, so that a register takes no call: a line takes 0.9 times as long.
+    #[inline]
+    fn register(&mut self, k: u32)
+        requires { Room self.old (bytes_of " " ++ register_word k) }
+        ensures { Wrote self.old self.new (bytes_of " " ++ register_word k) }
+    {
+        self.put(b" $");
+        self.number(k);
+    }
+
+    // " L3"
+    fn target(&mut self, l: u32)
+        requires { Room self.old (bytes_of " " ++ label_word l) }
+        ensures { Wrote self.old self.new (bytes_of " " ++ label_word l) }
+    {
+        self.put(b" L");
+        self.number(l);
+    }
+
+    // " $2[$0]"
+    fn address(&mut self, b: u32, i: u32)
+        requires { Room self.old (bytes_of " " ++ address_word b i) }
+        ensures { Wrote self.old self.new (bytes_of " " ++ address_word b i) }
+    {
+        self.register(b);
+        self.put(b"[$");
+        self.number(i);
+        self.put(b"]");
+    }
+
+    // The mnemonic of an operation, written in each arm, where its length is known: handed on as a text it makes a line take 1.1 times as long,
+    // one with a label 1.2 times.
+    fn mnemonic(&mut self, operation: Operation)
+        requires { Room self.old (bytes_of (mnemonic_of (operation_of (operation_number operation)))) }
+        ensures { Wrote self.old self.new (bytes_of (mnemonic_of (operation_of (operation_number operation)))) }
+    {
+        match operation {
+            Operation::Halt => self.put(b"halt"),
+            Operation::Nop => self.put(b"nop"),
+            Operation::Add => self.put(b"add"),
+            Operation::Addi => self.put(b"addi"),
+            Operation::Sub => self.put(b"sub"),
+            Operation::Mul => self.put(b"mul"),
+            Operation::Load => self.put(b"load"),
+            Operation::Store => self.put(b"store"),
+            Operation::Jmp => self.put(b"jmp"),
+            Operation::Bne => self.put(b"bne"),
+            Operation::Beq => self.put(b"beq"),
+            Operation::Slt => self.put(b"slt"),
+        }
+    }
+
+    // The words after the mnemonic, each after a blank.
+    fn operands(&mut self, instruction: Instruction)
+        requires { Room self.old (operands_text instruction) }
+        ensures { Wrote self.old self.new (operands_text instruction) }
+    {
+        let Instruction { operation, a, b, c } = instruction;
+        match operation.form() {
+            Form::Unknown | Form::Bare => {}
+            Form::Registers => {
+                self.register(a);
+                self.register(b);
+                self.register(c);
+            }
+            Form::Immediate => {
+                self.register(a);
+                self.put(b" ");
+                self.number(b);
+                self.register(c);
+            }
+            Form::Load => {
+                self.register(a);
+                self.address(b, c);
+            }
+            Form::Store => {
+                self.address(a, b);
+                self.register(c);
+            }
+            Form::Jump => self.target(a),
+            Form::Branch => {
+                self.register(a);
+                self.register(b);
+                self.target(c);
+            }
+        }
+    }
+
+    // "L7: ", of a line that is named.
+    #[tactic(auto, using(crate::proofs::Writing::wrote_then))]
+    fn label(&mut self, named: bool, place: u32)
+        requires { Room self.old (label_part named place) }
+        ensures { Wrote self.old self.new (label_part named place) }
+    {
+        if named {
+            self.put(b"L");
+            self.number(place);
+            self.put(b": ");
+        }
+    }
+
+    // A line.
+    #[tactic(auto, unfolding(crate::specs::Line::instruction_line))]
+    pub(crate) fn line(&mut self, line: Line)
+        requires { Room self.old (line_text line) }
+        ensures { Wrote self.old self.new (line_text line) }
+    {
+        self.label(line.named, line.place);
+        self.mnemonic(line.instruction.operation);
+        self.operands(line.instruction);
+        self.put(b"\n");
+    }
 }

@@ -1,3 +1,5 @@
+pub mod Formed
+pub mod Addresses
 pub mod Runs
 pub mod Places
 pub mod Entries

@@ -3,8 +3,7 @@
 use Rattle.std.proofs.Common.{◌≡◌, ℕ, zero, suc, ◌-◌, ◌≤◌, List, length, sym, refl, ap, ◌∙◌, arith}
 use Rattle.machine.specs.declared.State.{State}
 use Rattle.machine.specs.declared.Ending.TheVariants.{Halted, Faulted}
-use Rattle.machine.specs.declared.Sizes.{Sizes}
-use Rattle.machine.specs.declared.Sizes.TheVariants.{Fine, CodeWords, MemoryCells}
+use Rattle.refusal.specs.Refusal.{Verdict, Passes, Refuses}
 use Rattle.machine.specs.Step.{Next, Go, Halt, Fault, Did, step_of}
 use Rattle.machine.specs.Run.{Ran, follow, run_of}
 use Rattle.machine.specs.Entry.{ended, Shown, shown, state_of, sizes_of, entered, run_shown, run_entry, step_shown, step_entry}
@@ -14,7 +13,7 @@ use Rattle.machine.proofs.Lengths.{step_kept}
 
 module _ (code : List ℕ) where
   abbrev Accepted : List ℕ → Type 0
-  Accepted m = sizes_of (length code) (length m) ≡ Fine
+  Accepted m = sizes_of (length code) (length m) ≡ Passes
 
   -- one more step, counted
   more : (k : ℕ) (r : Ran) → r.left ≤ k → shown (counted (run_shown k r).said) (run_shown k r).state (run_shown k r).memory ≡ run_shown (suc k) r
@@ -45,7 +44,7 @@ module _ (code : List ℕ) where
   unfolding step_entry
   accepted s m h =
       let d : Did = step_of code s.place s.registers m in
-      ap (λ (x : Sizes). entered x (step_shown s.place d.next d.registers d.memory) s m) h
+      ap (λ (x : Verdict). entered x (step_shown s.place d.next d.registers d.memory) s m) h
 
   shown_singly : (k p : ℕ) (g m : List ℕ) → Accepted m → run_shown k (run_of code k p g m) ≡ singly code k (state_of p g) m
   unfolding run_of singly
@@ -56,22 +55,21 @@ module _ (code : List ℕ) where
       ∙ ap (λ (x : Shown). onward (singly code k) x.said x.state x.memory) (sym (accepted (state_of p g) m h))
 
 -- demand 2: an accepted run is its single steps
-pub run_is_single_steps : (code m : List ℕ) (s : State) (budget : ℕ) → sizes_of (length code) (length m) ≡ Fine
+pub run_is_single_steps : (code m : List ℕ) (s : State) (budget : ℕ) → sizes_of (length code) (length m) ≡ Passes
     → run_entry code m s budget ≡ singly code budget s m
 unfolding run_entry
 run_is_single_steps code m s budget h =
-    ap (λ (x : Sizes). entered x (run_shown budget (run_of code budget s.place s.registers m)) s m) h
+    ap (λ (x : Verdict). entered x (run_shown budget (run_of code budget s.place s.registers m)) s m) h
     ∙ shown_singly code budget s.place s.registers m h
 
 -- demand 1: a run is refused as a single step is, with nothing changed
-pub refused_alike : (code m : List ℕ) (s : State) (budget : ℕ) → (sizes_of (length code) (length m) ≡ Fine → ⊥)
+pub refused_alike : (code m : List ℕ) (s : State) (budget : ℕ) → (sizes_of (length code) (length m) ≡ Passes → ⊥)
     → run_entry code m s budget ≡ step_entry code m s
 unfolding run_entry step_entry
 refused_alike code m s budget h = go (sizes_of (length code) (length m)) h
   where
-    go : (x : Sizes) → (x ≡ Fine → ⊥)
+    go : (x : Verdict) → (x ≡ Passes → ⊥)
         → entered x (run_shown budget (run_of code budget s.place s.registers m)) s m
         ≡ entered x (step_shown s.place (step_of code s.place s.registers m).next (step_of code s.place s.registers m).registers (step_of code s.place s.registers m).memory) s m
-    go Fine f = absurd (f refl)
-    go CodeWords f = refl
-    go MemoryCells f = refl
+    go Passes f = absurd (f refl)
+    go (Refuses n k) f = refl

@@ -5,8 +5,7 @@ use borrow.Author.Tests.{eqb-false}
 use Rattle.word.specs.Word.{Cell, At, Nowhere}
 use Rattle.instruction.specs.Instruction.{Instruction, ins, jmp, Fetched, outside, unknown, found, fetch, count_of}
 use Rattle.machine.specs.declared.State.{State}
-use Rattle.machine.specs.declared.Sizes.{Sizes}
-use Rattle.machine.specs.declared.Sizes.TheVariants.{Fine, CodeWords, MemoryCells}
+use Rattle.refusal.specs.Refusal.{Verdict, Passes, Refuses}
 use Rattle.machine.specs.Step.{Next, Go, Halt, Fault, Did, did, wrote_registers, loads, stores, read_of, cell_at, rules, perform, tried, step_of}
 use Rattle.machine.specs.Run.{follow, run_of}
 use Rattle.machine.specs.Entry.{Shown, sizes_of, entered, run_shown, run_entry}
@@ -92,7 +91,6 @@ module _ (j : ℕ) where
     spared_kept m s budget = go (sizes_of (length code) (length m)) (run_shown budget (run_of code budget s.place s.registers m)) (run_kept budget s.place s.registers m)
       where
         -- whether the run is refused or not
-        go : (x : Sizes) (r : Shown) → Kept s.registers r.state.registers → Kept s.registers (entered x r s m).state.registers
-        go Fine r h = cc
-        go CodeWords r h = cc
-        go MemoryCells r h = cc
+        go : (x : Verdict) (r : Shown) → Kept s.registers r.state.registers → Kept s.registers (entered x r s m).state.registers
+        go Passes r h = cc
+        go (Refuses n k) r h = cc

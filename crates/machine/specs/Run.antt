@@ -12,6 +12,7 @@ pub record Ran : Type 0 where
   pub registers : List ℕ
   pub memory : List ℕ
 
+-- the same, by its parts
 abbrev pub ran : Ending → ℕ → ℕ → List ℕ → List ℕ → Ran
 ran e k p g m = record { ending = e; left = k; place = p; registers = g; memory = m }
 

@@ -15,6 +15,7 @@ pub record Did : Type 0 where
   pub registers : List ℕ
   pub memory : List ℕ
 
+-- the same, by its parts
 abbrev pub did : Next → List ℕ → List ℕ → Did
 did x g m = record { next = x; registers = g; memory = m }
 
@@ -22,24 +23,28 @@ did x g m = record { next = x; registers = g; memory = m }
 unfoldable pub read_of : List ℕ → ℕ → ℕ
 read_of g r = cond (r == 0) 0 (slice_index g r)
 
--- check 3, "a result written to $0"; otherwise register a holds v, and the next place follows
+-- check 3, "a result written to $0"; otherwise the next place follows
 abbrev pub wrote_next : ℕ → ℕ → Next
 wrote_next p a = cond (a == 0) (Fault 3) (Go (suc p))
 
+-- and register a holds v
 abbrev pub wrote_registers : ℕ → ℕ → List ℕ → List ℕ
 wrote_registers a v g = cond (a == 0) g (slice_set g a v)
 
+-- v written to register a
 abbrev pub writes : ℕ → ℕ → ℕ → List ℕ → List ℕ → Did
 writes p a v g m = did (wrote_next p a) (wrote_registers a v g) m
 
--- check 4, "load or store address outside memory", after check 3
+-- the cell at the address of registers b and i, if the memory has it
 abbrev pub cell_at : List ℕ → List ℕ → ℕ → ℕ → Cell
 cell_at g m b i = cell_of (address_of (read_of g b) (read_of g i)) (length m)
 
+-- a load to register a: check 4, "load or store address outside memory", after check 3
 abbrev pub loads : ℕ → ℕ → Cell → List ℕ → List ℕ → Did
 loads p a (At i) g m = writes p a (slice_index m i) g m
 loads p a Nowhere g m = did (cond (a == 0) (Fault 3) (Fault 4)) g m
 
+-- a store of v: check 4
 abbrev pub stores : ℕ → ℕ → Cell → List ℕ → List ℕ → Did
 stores p v (At i) g m = did (Go (suc p)) g (slice_set m i v)
 stores p v Nowhere g m = did (Fault 4) g m
@@ -52,6 +57,7 @@ jumps_to n l = cond (nat_lt l n) (Go l) (Fault 5)
 abbrev pub branches : Bool → ℕ → ℕ → ℕ → Next
 branches taken n p l = cond taken (jumps_to n l) (Go (suc p))
 
+-- 1 where it holds, else 0
 abbrev pub flag_of : Bool → ℕ
 flag_of t = cond t 1 0
 
@@ -72,6 +78,7 @@ rules n p g m a b c =
     ∷ writes p a (flag_of (less_of (read_of g b) (read_of g c))) g m
     ∷ []
 
+-- an instruction at place p of a code of n instructions; a number that no operation has is check 2's fault
 unfoldable pub perform : ℕ → ℕ → List ℕ → List ℕ → Instruction → Did
 perform n p g m (ins o a b c) = slice_index_or (rules n p g m a b c) o (did (Fault 2) g m)
 

@@ -1,5 +1,4 @@
 -- The first failing row, found by going through the rows from the lowest.
--- Assumes nothing.
 use mathlib.Core.Path.{◌≡◌, refl, sym, ap, ◌∙◌}
 use mathlib.Core.Logic.{⊎_elim}
 use mathlib.Core.Bool.{Bool, true, false, cond}
@@ -9,9 +8,7 @@ use native.Mathlib.Omega.{arith}
 use native.Mathlib.Numerals.{add-one}
 use lib.Dec.{ltb}
 use borrow.Author.Tests.{ltb-false, lt-ltb, le-ltb}
-use Rattle.refusal.specs.declared.Verdict.{Verdict}
-use Rattle.refusal.specs.declared.Verdict.TheVariants.{Passes, Refuses}
-use Rattle.refusal.specs.Refusal.{◌and_then◌, lowest_from, refused_at, first_refused}
+use Rattle.refusal.specs.Refusal.{Verdict, Passes, Refuses, ◌and_then◌, lowest_from, refused_at, first_refused}
 
 -- a row of the table is named with its number; a row after it is none
 module _ (f : ℕ → ℕ) (n i : ℕ) where

@@ -12,7 +12,7 @@ use lib.Dec.{eqb, ltb, leb}
 use lib.ListN.{length, get_or, set, length-set, length-replicate, get_or-eq_default}
 use lib.Seq.{get_or-set_same, get_or-set_other}
 use borrow.Author.Tests.{eqb-true, leb-true, leb-false, ltb-false, lt-leb, le-leb}
-use Rattle.refusal.specs.declared.Verdict.TheVariants.{Passes, Refuses}
+use Rattle.refusal.specs.Refusal.{Passes, Refuses}
 use Rattle.rule.specs.Table.{declaration_rows, sort, given, cells_of, first_cell}
 use Rattle.rule.specs.Check.{is_declaration, declaration_no, refused, declarations, declaration_words, declared, bases}
 use Rattle.rule.proofs.Verdicts.{both_hold, both_pass, declaration_words_pass}

@@ -7,7 +7,7 @@ use Prim.Native.Nat.{ℕ, suc, ◌+◌, ◌-◌, ◌*◌, ◌≤◌, ◌<◌}
 use native.Mathlib.Omega.{arith}
 use lib.Dec.{eqb, ltb, leb}
 use borrow.Author.Tests.{ltb-true, ltb-false, leb-true, eqb-true, eq-eqb, not-false}
-use Rattle.refusal.specs.declared.Verdict.TheVariants.{Passes}
+use Rattle.refusal.specs.Refusal.{Passes}
 use Rattle.rule.specs.Kind.{Class, Words, none, unused, number, scalar, variable_name, array_name, expression, command, words_of, first, second, third, is_expression, is_command}
 use Rattle.rule.specs.Table.{declaration_rows, sort, node_rows, word, kind_at}
 use Rattle.rule.specs.Check.{among, child_no, name_no, word_no, last_no, row_no, refused, rows, is_child, uses, misused, used_once}

@@ -6,9 +6,7 @@ use Prim.Native.Nat.{ℕ, ◌<◌, ◌≤◌, ◌%◌}
 use native.Mathlib.Omega.{arith}
 use lib.Dec.{eqb, ltb, leb}
 use borrow.Author.Tests.{eqb-true, ltb-true, leb-true}
-use Rattle.refusal.specs.declared.Verdict.{Verdict}
-use Rattle.refusal.specs.declared.Verdict.TheVariants.{Passes, Refuses}
-use Rattle.refusal.specs.Refusal.{◌and_then◌}
+use Rattle.refusal.specs.Refusal.{Verdict, Passes, Refuses, ◌and_then◌}
 use Rattle.rule.specs.Check.{node_words, declaration_words}
 
 pub both_hold : (s t : Bool) → s && t ≡ true → (s ≡ true) × (t ≡ true)

@@ -1,11 +1,8 @@
 -- What the functions that check answer, in the paper's numbers. 01-scope.md, "Numbered refusals, in order".
-use Rattle.std.specs.Prelude.{List, ℕ}
-use Rattle.refusal.specs.declared.Verdict.{Verdict}
-use Rattle.refusal.specs.declared.Verdict.TheVariants.{Passes, Refuses}
-use Rattle.rule.specs.declared.CheckAnswer.{CheckAnswer}
-use Rattle.rule.specs.declared.CheckAnswer.TheVariants.{Accepted, Refused}
+use Rattle.std.specs.Prelude.{List, ℕ, ⊤, Result, Ok, Err}
+use Rattle.refusal.specs.declared.Refusal.{Refusal}
+use Rattle.refusal.specs.Refusal.{Verdict, Passes, Refuses, number_of, value_of, ◌and_then◌}
 use Rattle.rule.specs.Table.{declaration_rows, first_cell}
-use Rattle.refusal.specs.Refusal.{◌and_then◌}
 use Rattle.rule.specs.Check.{node_words, declaration_words, nodes, tables}
 
 -- "If an answer is an enum, a definition gives this paper's number and values for each of its cases. The promises use that definition."
@@ -15,21 +12,26 @@ pub data Said : Type 0 where
   accepted : ℕ → Said
   refused : ℕ → ℕ → Said
 
-unfoldable pub verdict_said : Verdict → Said
-verdict_said Passes = passed
-verdict_said (Refuses n v) = refused n v
+unfoldable pub verdict_said : Result ⊤ Refusal → Said
+verdict_said (Ok x) = passed
+verdict_said (Err r) = refused (number_of r) (value_of r)
 
-abbrev pub check_said : CheckAnswer → Said
-check_said (Accepted n) = accepted n
-check_said (Refused n v) = refused n v
+abbrev pub check_said : Result ℕ Refusal → Said
+check_said (Ok n) = accepted n
+check_said (Err r) = refused (number_of r) (value_of r)
+
+-- what is said by a verdict of which nothing is returned where it passes
+unfoldable pub said_by : Verdict → Said
+said_by Passes = passed
+said_by (Refuses n v) = refused n v
 
 -- 1 and 2, of n node words and d declaration words
 unfoldable pub words_checked : ℕ → ℕ → Said
-words_checked n d = verdict_said (node_words n and_then declaration_words d)
+words_checked n d = said_by (node_words n and_then declaration_words d)
 
 -- 1, then 6 to 10
 unfoldable pub rows_checked : List ℕ → List ℕ → Said
-rows_checked ds ns = verdict_said (nodes ds ns)
+rows_checked ds ns = said_by (nodes ds ns)
 
 abbrev pub said_of : List ℕ → Verdict → Said
 said_of ds Passes = accepted (first_cell ds (declaration_rows ds))

@@ -1,8 +1,8 @@
 -- Refusals 1, 2 and 4 to 10, in their order. 01-scope.md, "Numbered refusals, in order".
-use Rattle.std.specs.Prelude.{Bool, true, false, cond, not, ◌&&◌, List, ℕ, zero, suc, ◌+◌, ◌-◌, ◌*◌, ◌%◌, min, eqb, ltb, leb, length, replicate, set}
-use Rattle.refusal.specs.declared.Verdict.{Verdict}
-use Rattle.refusal.specs.declared.Verdict.TheVariants.{Passes, Refuses}
-use Rattle.refusal.specs.Refusal.{◌and_then◌, first_refused}
+use Rattle.std.specs.Prelude.{Bool, true, false, cond, not, ◌&&◌, List, ℕ, zero, suc, ◌+◌, ◌-◌, ◌*◌, ◌%◌, min, eqb, ltb, leb, length, replicate, set, ⊤, Result, Ok, Err}
+use Rattle.rule.specs.declared.fault.Fault.{Fault}
+use Rattle.rule.specs.declared.fault.Fault.TheVariants as F
+use Rattle.refusal.specs.Refusal.{Verdict, Passes, Refuses, ◌and_then◌, first_refused}
 use Rattle.rule.specs.Kind.{Class, none, unused, number, scalar, variable_name, array_name, expression, command, Words, words_of, first, second, third, is_expression, is_command}
 use Rattle.rule.specs.Table.{row_limit, declaration_limit, cell_limit, declaration_rows, sort, given, first_cell, node_rows, word, kind_at}
 
@@ -22,9 +22,11 @@ is_declaration k v = cond (eqb k 1) true (cond (eqb k 2) (eqb v 0) (cond (eqb k 
 abbrev pub declaration_no : List ℕ → ℕ → ℕ
 declaration_no ds x = cond (is_declaration (sort ds x) (given ds x)) (cond (leb (first_cell ds (suc x)) cell_limit) 10 5) 4
 
+-- whether a number is a refusal's
 abbrev pub refused : ℕ → Bool
 refused k = ltb k 10
 
+-- 4 and 5
 unfoldable pub declarations : List ℕ → Verdict
 declarations ds = first_refused (declaration_no ds) (λ x. refused (declaration_no ds x)) (declaration_rows ds)
 
@@ -36,9 +38,11 @@ child_no i right w = cond (ltb w i) (cond right 10 7) 6
 abbrev pub name_no : List ℕ → Bool → ℕ → ℕ
 name_no ds right w = cond (ltb w (declaration_rows ds)) (cond right 10 9) 8
 
+-- a number from low to high
 abbrev pub among : ℕ → ℕ → ℕ → Bool
 among low high k = leb low k && leb k high
 
+-- 6 to 9 of one word by its class, and of the three words of a row
 abbrev pub word_no : List ℕ → List ℕ → ℕ → Class → ℕ → ℕ
 word_no ds ns i none w = 6
 word_no ds ns i unused w = cond (eqb w 0) 10 6
@@ -61,8 +65,23 @@ last_no ns i = cond (eqb (suc i) (node_rows ns)) (cond (is_command (kind_at ns i
 unfoldable pub row_no : List ℕ → List ℕ → ℕ → ℕ
 row_no ds ns i = min (words_no ds ns i (words_of (kind_at ns i))) (last_no ns i)
 
+-- 6 to 9 of all rows
 unfoldable pub rows : List ℕ → List ℕ → Verdict
 rows ds ns = first_refused (row_no ds ns) (λ i. refused (row_no ds ns i)) (node_rows ns)
+
+-- the code's faults by their numbers, 10 where there is none, and the verdict on row i whose number is k
+abbrev pub fault_number : Fault → ℕ
+fault_number F.Word = 6
+fault_number F.Sort = 7
+fault_number F.Name = 8
+fault_number F.NamedKind = 9
+
+abbrev pub no_of : Result ⊤ Fault → ℕ
+no_of (Ok x) = 10
+no_of (Err f) = fault_number f
+
+abbrev pub verdict_at : ℕ → ℕ → Verdict
+verdict_at k i = cond (refused k) (Refuses k i) Passes
 
 -- "every other row is the child of exactly one parent, once": how often the rows below n name row j
 abbrev pub is_child : Class → Bool

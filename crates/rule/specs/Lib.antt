@@ -5,3 +5,4 @@ pub mod Check
 pub mod Marks
 pub mod Answer
 pub mod Layout
+pub mod Row

@@ -2,35 +2,78 @@
 // include/sauskinna.h declares them.
 #![tactic(auto)]
 
-ghost use Rattle.std.specs.Prelude.{◌≡◌, [], ◌∷◌, length};
+ghost use Rattle.std.specs.Prelude.{◌≡◌, [], ◌∷◌, length, MatchResult};
+ghost use Rattle.refusal.specs.Refusal.{number_of, value_of};
 ghost use Rattle.compiler.specs.Answer.{compiled, leaves};
 ghost use Rattle.listing.specs.Listing.{answered, leaves as text_left};
 ghost use Rattle.machine.specs.Entry.{state_of, step_entry, run_entry};
-ghost use Rattle.sauskinna.specs.Words.{compile_returned, compile_answered, list_returned, list_answered, left, in_words, version};
+ghost use Rattle.sauskinna.specs.Words.{compile_returned, compile_answered, list_returned, list_answered, ending_answered, left, in_words, version};
 
-use compiler::CompileAnswer;
-use listing::ListAnswer;
-use machine::{Ending, RunAnswer};
+use compiler::Accepted;
+use machine::{Ended, Ending};
+use refusal::Refusal;
 
 // First number × 1,000 + second: the first is raised where an answer changes, the second where a function is added.
 const VERSION: u32 = 1001;
 
-// How a step or a run ended: the first word of its answer.
-const WENT_ON: u32 = 0;
+// What is returned where nothing is refused.
+const ACCEPTED: u32 = 0;
 
-const HALTED: u32 = 1;
+// How a step or a run ended, in the order of the numbers that are the first word of its answer.
+#[derive(Clone, Copy)]
+enum How {
+    WentOn,
+    Halted,
+    Faulted,
+    Unfinished,
+}
 
-const FAULTED: u32 = 2;
-
-const UNFINISHED: u32 = 3;
-
-// Stores the three words of an answer, and gives the number to return.
-fn tell(answer: &mut [u32; 3], a: u32, b: u32, c: u32, number: u32) -> u32
-    ensures number { result ≡ number }
-    ensures answer { answer.new ≡ a ∷ b ∷ c ∷ [] }
+// Tells what is said in an answer's words, or the value returned with a refusal, and gives the number to return.
+fn tell<A, F: FnOnce(A) -> [u32; 3]>(
+    answer: &mut [u32; 3],
+    said: Result<A, Refusal>,
+    words: F,
+) -> u32
+    requires { F.IsAlwaysCallable words }
+    ensures { MatchResult said
+        (λ x. (result ≡ 0) × F.post words x answer.new)
+        (λ r. (result ≡ number_of r) × (answer.new ≡ value_of r ∷ 0 ∷ 0 ∷ [])) }
 {
-    *answer = [a, b, c];
-    number
+    match said {
+        Ok(x) => {
+            *answer = words(x);
+            ACCEPTED
+        }
+        Err(refusal) => {
+            *answer = [refusal.value(), 0, 0];
+            refusal.number()
+        }
+    }
+}
+
+// The answer of an accepted rule: the instructions, the cells and the need.
+fn words_of_rule(rule: Accepted) -> [u32; 3]
+    ensures { result ≡ rule.instructions ∷ rule.cells ∷ rule.need ∷ [] }
+{
+    [rule.instructions, rule.cells, rule.need]
+}
+
+// The answer of a listing: the bytes written.
+fn words_of_bytes(bytes: u32) -> [u32; 3]
+    ensures { result ≡ bytes ∷ 0 ∷ 0 ∷ [] }
+{
+    [bytes, 0, 0]
+}
+
+// The answer of a run: its ending, the fault's number or 0, and the steps taken.
+fn words_of_run(ended: Ended) -> [u32; 3]
+    ensures { result ≡ ending_answered ended.ending ended.steps }
+{
+    match ended.ending {
+        Ending::Halted => [How::Halted as u32, 0, ended.steps],
+        Ending::Faulted(fault) => [How::Faulted as u32, fault, ended.steps],
+        Ending::Unfinished => [How::Unfinished as u32, 0, ended.steps],
+    }
 }
 
 // Compiles a rule into the code buffer. Answers the instructions, the cells and the need; at a refusal the value returned.
@@ -47,10 +90,7 @@ pub extern "C" fn sauskinna_compile(
     ensures buffer { code.new ≡ leaves declarations.now nodes.now pool code.old }
 {
     let said = compiler::compile(declarations, nodes, pool, code);
-    match said {
-        CompileAnswer::Accepted(count, cells, need) => tell(answer, count, cells, need, 0),
-        CompileAnswer::Refused(number, value) => tell(answer, value, 0, 0, number),
-    }
+    tell(answer, said, words_of_rule)
 }
 
 // Runs from the place and the registers lent, under a budget. Answers the ending, the fault's number or 0, and the steps taken.
@@ -65,15 +105,15 @@ pub extern "C" fn sauskinna_run(
 ) -> u32
     ensures { left result answer.new (state_of place.new registers.new) memory.new ≡ in_words (run_entry code.now memory.old (state_of place.old registers.old) budget) }
 {
-    let said = machine::run_in_place(code, memory, place, registers, budget);
-    match said {
-        RunAnswer::CodeRefused => tell(answer, 0, 0, 0, 13),
-        RunAnswer::MemoryRefused => tell(answer, 0, 0, 0, 14),
-        RunAnswer::Ended(ending, steps) => match ending {
-            Ending::Halted => tell(answer, HALTED, 0, steps, 0),
-            Ending::Faulted(fault) => tell(answer, FAULTED, fault, steps, 0),
-            Ending::Unfinished => tell(answer, UNFINISHED, 0, steps, 0),
-        },
+    match machine::run_in_place(code, memory, place, registers, budget) {
+        Ok(ended) => {
+            *answer = words_of_run(ended);
+            ACCEPTED
+        }
+        Err(refusal) => {
+            *answer = [0, 0, 0];
+            refusal.number()
+        }
     }
 }
 
@@ -85,10 +125,7 @@ pub extern "C" fn sauskinna_listing(code: &[u32], text: &mut [u8], answer: &mut 
     ensures text { text.new ≡ text_left code.now text.old }
 {
     let said = listing::list(code, text);
-    match said {
-        ListAnswer::Listed(bytes) => tell(answer, bytes, 0, 0, 0),
-        ListAnswer::Refused(number, value) => tell(answer, value, 0, 0, number),
-    }
+    tell(answer, said, words_of_bytes)
 }
 
 // Takes a single step from the place and the registers lent. Answers how it went, the fault's number or 0, and the steps taken.
@@ -105,8 +142,8 @@ pub extern "C" fn sauskinna_step(
     ensures { left result answer.new (state_of place.new registers.new) memory.new ≡ in_words (step_entry code.now memory.old (state_of place.old registers.old)) }
 {
     let number = sauskinna_run(code, memory, place, registers, 1, answer);
-    if answer[0] == UNFINISHED {
-        answer[0] = WENT_ON;
+    if answer[0] == How::Unfinished as u32 {
+        answer[0] = How::WentOn as u32;
     }
     number
 }

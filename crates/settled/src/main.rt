@@ -6,7 +6,10 @@ mod show;
 mod table;
 
 use machine::State;
+use rule::{Command, DECLARATION_WORDS, Expression, Operator, Sort};
+use show::{Code, Compiled, Ran, Stepped, X};
 use std::io;
+use table::{Nested, Row, command, expression};
 
 // Pools by their registers: $1; $1 and $2; and so on, to all of them.
 const POOL_1: u64 = 0b10;
@@ -17,190 +20,163 @@ const POOL_1_4: u64 = 0b11110;
 
 const POOL_1_5: u64 = 0b111110;
 
-const POOL_1_63: u64 = 0xfffffffffffffffe;
+const POOL_1_63: u64 = u64::MAX - 1;
 
-// A rule is compiled and its line printed. The number of instructions is handed back.
-fn compiled_over(
-    rt: &impl Print,
-    name: &str,
-    declarations: &[u32],
-    nodes: &[u32],
+// The words of an instruction, and buffers with room for 2 instructions, for 16, and for the longest code.
+const INSTRUCTION_WORDS: usize = 4;
+
+const SMALL_ROOM: usize = 2 * INSTRUCTION_WORDS;
+
+const ROOM: usize = 16 * INSTRUCTION_WORDS;
+
+const DEEP_ROOM: usize = 1366 * INSTRUCTION_WORDS;
+
+// An example: what it is called, its rule, and the pool that it is compiled for.
+#[derive(Clone, Copy)]
+struct Example<'a> {
+    name: &'a str,
+    nodes: &'a [Row],
     pool: u64,
-    code: &mut [u32],
-) -> io::Result<u32> {
-    show::text(rt, name)?;
-    show::compiled(rt, compiler::compile(declarations, nodes, pool, code))
 }
 
-// The same over one variable, x.
-fn compiled(
-    rt: &impl Print,
-    name: &str,
-    nodes: &[u32],
-    pool: u64,
-    code: &mut [u32],
-) -> io::Result<u32> {
-    let declarations = [rule::VARIABLE, 0];
-    compiled_over(rt, name, &declarations, nodes, pool, code)
+impl<'a> Example<'a> {
+    // The example of that name, rule and pool.
+    fn new(name: &'a str, nodes: &'a [Row], pool: u64) -> Example<'a> {
+        Example { name, nodes, pool }
+    }
+
+    // The rule is compiled and its line printed. The code is handed back, nothing of a refused rule.
+    fn compiled_over<'b>(
+        self,
+        rt: &impl Print,
+        declarations: &[[u32; DECLARATION_WORDS]],
+        buffer: &'b mut [u32],
+    ) -> io::Result<&'b [u32]> {
+        let nodes = self.nodes.as_flattened();
+        let answer = compiler::compile(declarations.as_flattened(), nodes, self.pool, buffer);
+        println!(rt; "{}: {}", self.name, Compiled(answer))?;
+        let instructions = answer.map_or(0, |accepted| accepted.instructions);
+        let words = instructions as usize * INSTRUCTION_WORDS;
+        Ok(&buffer[..words.min(buffer.len())])
+    }
+
+    // The same over one variable, x.
+    fn compiled<'b>(self, rt: &impl Print, buffer: &'b mut [u32]) -> io::Result<&'b [u32]> {
+        self.compiled_over(rt, &[[u32::from(Sort::Variable), 0]], buffer)
+    }
 }
 
 // Place 0, and registers of 0 but for $1 and $2.
 pub(crate) fn start_with(one: u32, two: u32) -> State {
-    let mut registers = [0u32; 64];
+    let mut registers = [0; 64];
     registers[1] = one;
     registers[2] = two;
     State {
         place: 0,
-        registers: registers,
+        registers,
     }
-}
-
-// A line's front, before a run, and its end.
-fn before_run(rt: &impl Print, memory: &[u32], budget: u32) -> io::Result<()> {
-    show::text(rt, "  ")?;
-    show::x(rt, memory)?;
-    show::named(rt, ", budget ", budget)?;
-    show::text(rt, ": ")
-}
-
-fn after_run(rt: &impl Print, memory: &[u32]) -> io::Result<()> {
-    if 0 < memory.len() {
-        show::text(rt, ", ")?;
-        show::x(rt, memory)?;
-    }
-    show::text(rt, "\n")
 }
 
 // A run from place 0 with registers of 0, and its line.
 fn run(rt: &impl Print, code: &[u32], memory: &mut [u32], budget: u32) -> io::Result<()> {
-    before_run(rt, memory, budget)?;
+    print!(rt; "  {}, budget {budget}: ", X(memory))?;
     let ran = machine::run(code, memory, start_with(0, 0), budget);
-    let answer = ran.answer;
-    show::ran(rt, answer)?;
-    after_run(rt, memory)
+    print!(rt; "{}", Ran(ran.answer))?;
+    if !memory.is_empty() {
+        print!(rt; ", {}", X(memory))?;
+    }
+    println!(rt)
 }
 
 // The same over one cell that holds x.
 fn run_with(rt: &impl Print, code: &[u32], x: u32, budget: u32) -> io::Result<()> {
-    let mut memory = [x];
-    run(rt, code, &mut memory, budget)
-}
-
-// One step from a state, and what came of it.
-pub(crate) fn step(
-    rt: &impl Print,
-    before: &str,
-    code: &[u32],
-    memory: &mut [u32],
-    from: State,
-) -> io::Result<State> {
-    show::text(rt, before)?;
-    let stepped = machine::step(code, memory, from);
-    let answer = stepped.answer;
-    let state = stepped.state;
-    show::stepped(rt, answer, state.place)?;
-    Ok(state)
+    run(rt, code, &mut [x], budget)
 }
 
 // Four single steps, in a line.
 fn four_steps(rt: &impl Print, code: &[u32]) -> io::Result<()> {
-    let mut memory = [0u32];
-    let first = step(
-        rt,
-        "  x = 0, single steps: ",
-        code,
-        &mut memory,
-        start_with(0, 0),
-    )?;
-    let second = step(rt, ", ", code, &mut memory, first)?;
-    let third = step(rt, ", ", code, &mut memory, second)?;
-    step(rt, ", ", code, &mut memory, third)?;
-    after_run(rt, &memory)
+    let mut memory = [0];
+    let mut state = start_with(0, 0);
+    print!(rt; "  {}, single steps: ", X(&memory))?;
+    for _ in 0..4 {
+        let stepped = machine::step(code, &mut memory, state);
+        state = stepped.state;
+        print!(rt; "{}, ", Stepped(&stepped))?;
+    }
+    println!(rt; "{}", X(&memory))
 }
 
 // x := 2.
 fn assign(rt: &impl Print) -> io::Result<()> {
-    let nodes = [rule::VALUE, 2, 0, 0, rule::ASSIGN, 0, 0, 0];
-    let mut buffer = [0u32; 64];
-    let n = compiled(rt, "x := 2, pool 1-2", &nodes, POOL_1_2, &mut buffer)?;
-    let code = table::front(&buffer, n);
-    show::code(rt, code)?;
-    run_with(rt, code, 0, 2)?;
-    run_with(rt, code, 0, 3)?;
-    run_with(rt, code, 0, 4)?;
+    let nodes = [
+        expression(Expression::Value, 2, 0),
+        command(Command::Assign, 0, 0, 0),
+    ];
+    let mut buffer = [0; ROOM];
+    let code = Example::new("x := 2, pool 1-2", &nodes, POOL_1_2).compiled(rt, &mut buffer)?;
+    println!(rt; "  code:{}", Code(code))?;
+    for budget in 2..5 {
+        run_with(rt, code, 0, budget)?;
+    }
     four_steps(rt, code)?;
-    let mut nothing: [u32; 0] = [];
-    run(rt, code, &mut nothing, 3)?;
-    run(rt, code, &mut nothing, 2)?;
-    compiled(rt, "x := 2, pool 1", &nodes, POOL_1, &mut buffer)?;
+    run(rt, code, &mut [], 3)?;
+    run(rt, code, &mut [], 2)?;
+    Example::new("x := 2, pool 1", &nodes, POOL_1).compiled(rt, &mut buffer)?;
     Ok(())
 }
 
 // x := 9 - (5 - 2).
 fn nested(rt: &impl Print) -> io::Result<()> {
-    let mut nodes = [0u32; 4100];
-    table::put(&mut nodes, 0, rule::VALUE, 9, 0, 0);
-    table::put(&mut nodes, 1, rule::VALUE, 5, 0, 0);
-    table::put(&mut nodes, 2, rule::VALUE, 2, 0, 0);
-    table::put(&mut nodes, 3, rule::MINUS, 1, 2, 0);
-    table::put(&mut nodes, 4, rule::MINUS, 0, 3, 0);
-    table::put(&mut nodes, 5, rule::ASSIGN, 0, 4, 0);
-    let rows = table::rows(&nodes, 6);
-    let mut buffer = [0u32; 64];
-    let n = compiled(
-        rt,
-        "x := 9 - (5 - 2), pool 1-5",
-        rows,
-        POOL_1_5,
-        &mut buffer,
-    )?;
-    let code = table::front(&buffer, n);
-    show::code(rt, code)?;
+    let nodes = [
+        expression(Expression::Value, 9, 0),
+        expression(Expression::Value, 5, 0),
+        expression(Expression::Value, 2, 0),
+        expression(Expression::Binary(Operator::Minus), 1, 2),
+        expression(Expression::Binary(Operator::Minus), 0, 3),
+        command(Command::Assign, 0, 4, 0),
+    ];
+    let mut buffer = [0; ROOM];
+    let example = Example::new("x := 9 - (5 - 2), pool 1-5", &nodes, POOL_1_5);
+    let code = example.compiled(rt, &mut buffer)?;
+    println!(rt; "  code:{}", Code(code))?;
     run_with(rt, code, 0, 8)?;
-    compiled(
-        rt,
-        "x := 9 - (5 - 2), pool 1-4",
-        rows,
-        POOL_1_4,
-        &mut buffer,
-    )?;
+    let narrower = Example::new("x := 9 - (5 - 2), pool 1-4", &nodes, POOL_1_4);
+    narrower.compiled(rt, &mut buffer)?;
     Ok(())
 }
 
 // x := not 0.
 fn not(rt: &impl Print) -> io::Result<()> {
-    let mut nodes = [0u32; 4100];
-    table::put(&mut nodes, 0, rule::VALUE, 0, 0, 0);
-    table::put(&mut nodes, 1, rule::NOT, 0, 0, 0);
-    table::put(&mut nodes, 2, rule::ASSIGN, 0, 1, 0);
-    let rows = table::rows(&nodes, 3);
-    let mut buffer = [0u32; 64];
-    let n = compiled(rt, "x := not 0, pool 1-2", rows, POOL_1_2, &mut buffer)?;
-    let code = table::front(&buffer, n);
+    let nodes = [
+        expression(Expression::Value, 0, 0),
+        expression(Expression::Not, 0, 0),
+        command(Command::Assign, 0, 1, 0),
+    ];
+    let mut buffer = [0; ROOM];
+    let code = Example::new("x := not 0, pool 1-2", &nodes, POOL_1_2).compiled(rt, &mut buffer)?;
     run_with(rt, code, 0, 5)?;
     run_with(rt, code, 0, 6)
 }
 
 // skip, with no register at all.
 fn skip(rt: &impl Print) -> io::Result<()> {
-    let nodes = [rule::SKIP, 0, 0, 0];
-    let mut buffer = [0u32; 64];
-    let n = compiled(rt, "skip, pool empty", &nodes, 0, &mut buffer)?;
-    let code = table::front(&buffer, n);
-    show::code(rt, code)?;
+    let nodes = [command(Command::Skip, 0, 0, 0)];
+    let mut buffer = [0; ROOM];
+    let code = Example::new("skip, pool empty", &nodes, 0).compiled(rt, &mut buffer)?;
+    println!(rt; "  code:{}", Code(code))?;
     run_with(rt, code, 0, 2)
 }
 
 // while x do skip.
 fn repeat(rt: &impl Print) -> io::Result<()> {
-    let mut nodes = [0u32; 4100];
-    table::put(&mut nodes, 0, rule::IDENTIFIER, 0, 0, 0);
-    table::put(&mut nodes, 1, rule::SKIP, 0, 0, 0);
-    table::put(&mut nodes, 2, rule::WHILE, 0, 1, 0);
-    let rows = table::rows(&nodes, 3);
-    let mut buffer = [0u32; 64];
-    let n = compiled(rt, "while x do skip, pool 1-2", rows, POOL_1_2, &mut buffer)?;
-    let code = table::front(&buffer, n);
+    let nodes = [
+        expression(Expression::Identifier, 0, 0),
+        command(Command::Skip, 0, 0, 0),
+        command(Command::While, 0, 1, 0),
+    ];
+    let example = Example::new("while x do skip, pool 1-2", &nodes, POOL_1_2);
+    let mut buffer = [0; ROOM];
+    let code = example.compiled(rt, &mut buffer)?;
     run_with(rt, code, 0, 4)?;
     run_with(rt, code, 1, 5)?;
     run_with(rt, code, 1, 10)
@@ -208,70 +184,41 @@ fn repeat(rt: &impl Print) -> io::Result<()> {
 
 // An array of 65,536 cells, alone and with a variable after it.
 fn cells(rt: &impl Print) -> io::Result<()> {
-    let alone = [rule::ARRAY, 65536];
-    let both = [rule::ARRAY, 65536, rule::VARIABLE, 0];
-    let skip = [rule::SKIP, 0, 0, 0];
-    let mut code = [0u32; 8];
-    compiled_over(
-        rt,
-        "array of 65,536 alone, skip",
-        &alone,
-        &skip,
-        0,
-        &mut code,
-    )?;
-    compiled_over(
-        rt,
-        "array of 65,536 and a variable, skip",
-        &both,
-        &skip,
-        0,
-        &mut code,
-    )?;
+    let nodes = [command(Command::Skip, 0, 0, 0)];
+    let array = [u32::from(Sort::Array), rule::CELL_LIMIT];
+    let mut buffer = [0; SMALL_ROOM];
+    let alone = Example::new("array of 65,536 alone, skip", &nodes, 0);
+    alone.compiled_over(rt, &[array], &mut buffer)?;
+    let both = Example::new("array of 65,536 and a variable, skip", &nodes, 0);
+    both.compiled_over(rt, &[array, [u32::from(Sort::Variable), 0]], &mut buffer)?;
     Ok(())
 }
 
 // A rule of 1,024 rows in sequences, as deep as these go, run to the end.
-fn deep_sequences(rt: &impl Print, name: &str, second: bool) -> io::Result<()> {
-    let mut nodes = [0u32; 4100];
-    table::sequences(&mut nodes, second);
-    let rows = table::rows(&nodes, 1024);
-    let mut buffer = [0u32; 5464];
-    let n = compiled(rt, name, rows, POOL_1_2, &mut buffer)?;
-    run_with(rt, table::front(&buffer, n), 0, 2000)
+fn deep_sequences(rt: &impl Print, name: &str, nested: Nested) -> io::Result<()> {
+    let nodes = table::sequences(nested);
+    let mut buffer = [0; DEEP_ROOM];
+    let code = Example::new(name, &nodes, POOL_1_2).compiled(rt, &mut buffer)?;
+    run_with(rt, code, 0, 2000)
 }
 
 // A rule of 1,024 rows in ifs, run to the end, and a row more than is taken.
 fn deep_ifs(rt: &impl Print) -> io::Result<()> {
-    let mut nodes = [0u32; 4100];
-    table::ifs(&mut nodes);
-    let rows = table::rows(&nodes, 1024);
-    let mut buffer = [0u32; 5464];
-    let n = compiled(rt, "341 ifs nested, 1,024 rows", rows, POOL_1, &mut buffer)?;
-    run_with(rt, table::front(&buffer, n), 0, 2000)?;
-    compiled(
-        rt,
-        "1,025 rows",
-        table::rows(&nodes, 1025),
-        POOL_1,
-        &mut buffer,
-    )?;
+    let nodes = table::ifs();
+    let (taken, _) = nodes.split_at(rule::ROW_LIMIT);
+    let example = Example::new("341 ifs nested, 1,024 rows", taken, POOL_1);
+    let mut buffer = [0; DEEP_ROOM];
+    let code = example.compiled(rt, &mut buffer)?;
+    run_with(rt, code, 0, 2000)?;
+    Example::new("1,025 rows", &nodes, POOL_1).compiled(rt, &mut buffer)?;
     Ok(())
 }
 
 // A rule of 1,023 rows that wants more registers than there are.
 fn deep_nots(rt: &impl Print) -> io::Result<()> {
-    let mut nodes = [0u32; 4100];
-    table::nots(&mut nodes);
-    let rows = table::rows(&nodes, 1023);
-    let mut buffer = [0u32; 8];
-    compiled(
-        rt,
-        "x := 1,021 nots of 0, 1,023 rows, pool 1-63",
-        rows,
-        POOL_1_63,
-        &mut buffer,
-    )?;
+    let nodes = table::nots();
+    let name = "x := 1,021 nots of 0, 1,023 rows, pool 1-63";
+    Example::new(name, &nodes, POOL_1_63).compiled(rt, &mut [0; SMALL_ROOM])?;
     Ok(())
 }
 
@@ -284,8 +231,16 @@ fn main(rt: HostRuntime) -> io::Result<()> {
     operations::wrapping(&rt)?;
     operations::steps(&rt)?;
     cells(&rt)?;
-    deep_sequences(&rt, "511 sequences nested as first, 1,024 rows", false)?;
-    deep_sequences(&rt, "511 sequences nested as second, 1,024 rows", true)?;
+    deep_sequences(
+        &rt,
+        "511 sequences nested as first, 1,024 rows",
+        Nested::First,
+    )?;
+    deep_sequences(
+        &rt,
+        "511 sequences nested as second, 1,024 rows",
+        Nested::Second,
+    )?;
     deep_ifs(&rt)?;
     deep_nots(&rt)
 }

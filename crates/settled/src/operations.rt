@@ -1,124 +1,84 @@
 // The settled examples of the machine alone: results that wrap, signed order, exact addresses, and the label of a branch.
-use crate::{show, start_with, step};
-use machine::State;
+use crate::show::{Ran, Stepped};
+use crate::{INSTRUCTION_WORDS, start_with};
+use instruction::Operation;
 use std::io;
 
-// Code that puts two words into $1 and $2 and the operation's result into $3.
-fn code_of(operation: u32, b: u32, c: u32) -> [u32; 16] {
-    [
-        instruction::ADDI,
-        1,
-        b,
-        0,
-        instruction::ADDI,
-        2,
-        c,
-        0,
-        operation,
-        3,
-        1,
-        2,
-        instruction::HALT,
-        0,
-        0,
-        0,
-    ]
+// The words of an instruction.
+fn words(operation: Operation, a: u32, b: u32, c: u32) -> [u32; INSTRUCTION_WORDS] {
+    [u32::from(operation), a, b, c]
 }
 
-// The four instructions run, with no memory.
-fn run_code(code: &[u32; 16]) -> machine::Ran {
-    let mut nothing: [u32; 0] = [];
-    machine::run(code, &mut nothing, start_with(0, 0), 4)
-}
-
-// An operation on two words, and its result.
-fn operate(rt: &impl Print, operation: u32, b: u32, sign: &str, c: u32) -> io::Result<()> {
-    let ran = run_code(&code_of(operation, b, c));
-    let answer = ran.answer;
-    let state = ran.state;
-    show::signed(rt, b)?;
-    show::named_word(rt, sign, c)?;
-    show::named_word(rt, " = ", state.registers[3])?;
-    show::text(rt, ": ")?;
-    show::ran(rt, answer)?;
-    show::text(rt, "\n")
+// Two words are put into $1 and $2, and the operation's result into $3, in four steps with no memory. The sign stands for the operation.
+fn operate(rt: &impl Print, operation: Operation, sign: char, b: i32, c: i32) -> io::Result<()> {
+    let code = [
+        words(Operation::Addi, 1, b.cast_unsigned(), 0),
+        words(Operation::Addi, 2, c.cast_unsigned(), 0),
+        words(operation, 3, 1, 2),
+        words(Operation::Halt, 0, 0, 0),
+    ];
+    let ran = machine::run(code.as_flattened(), &mut [], start_with(0, 0), 4);
+    let gives = ran.state.registers[3].cast_signed();
+    println!(rt; "{b} {sign} {c} = {gives}: {}", Ran(ran.answer))
 }
 
 // The three results that wrap.
 pub(crate) fn wrapping(rt: &impl Print) -> io::Result<()> {
-    operate(rt, instruction::ADD, 2147483647, " + ", 1)?;
-    operate(rt, instruction::MUL, 46341, " * ", 46341)?;
-    operate(rt, instruction::MUL, 2147483648, " * ", 4294967295)
+    operate(rt, Operation::Add, '+', i32::MAX, 1)?;
+    operate(rt, Operation::Mul, '*', 46341, 46341)?;
+    operate(rt, Operation::Mul, '*', i32::MIN, -1)
 }
 
-// One step of code of two instructions over cells that hold 70 and 71, with $1 and $2 as given.
-fn one_step(
-    rt: &impl Print,
-    name: &str,
-    op: u32,
-    a: u32,
-    b: u32,
-    c: u32,
-    one: u32,
-    two: u32,
-) -> io::Result<State> {
-    let code = [op, a, b, c, instruction::HALT, 0, 0, 0];
-    let mut memory = [70u32, 71];
-    show::text(rt, name)?;
-    show::named_word(rt, ", $1 = ", one)?;
-    show::named_word(rt, ", $2 = ", two)?;
-    step(rt, ": ", &code, &mut memory, start_with(one, two))
+// An instruction that is tried alone: what it is called, and its words.
+#[derive(Clone, Copy)]
+struct Single {
+    name: &'static str,
+    words: [u32; INSTRUCTION_WORDS],
 }
 
-// What a step left in $3, to the end of the line.
-fn third(rt: &impl Print, state: State) -> io::Result<()> {
-    show::named_word(rt, ", $3 = ", state.registers[3])?;
-    show::text(rt, "\n")
+impl Single {
+    // One step of it over cells that hold 70 and 71, with $1 and $2 as given. What it left in $3 is handed back.
+    fn step(self, rt: &impl Print, one: i32, two: i32) -> io::Result<i32> {
+        let code = [self.words, words(Operation::Halt, 0, 0, 0)];
+        let from = start_with(one.cast_unsigned(), two.cast_unsigned());
+        let stepped = machine::step(code.as_flattened(), &mut [70, 71], from);
+        print!(rt;
+            "{}, $1 = {one}, $2 = {two}: {}",
+            self.name,
+            Stepped(&stepped)
+        )?;
+        Ok(stepped.state.registers[3].cast_signed())
+    }
 }
 
-// slt of two words.
-fn slt(rt: &impl Print, b: u32, c: u32) -> io::Result<()> {
-    let state = one_step(rt, "slt $3 $1 $2", instruction::SLT, 3, 1, 2, b, c)?;
-    third(rt, state)
-}
-
-// A load from the cell that base and index name.
-fn load(rt: &impl Print, base: u32, index: u32) -> io::Result<()> {
-    let state = one_step(
-        rt,
-        "load $3 $1[$2] of cells 70 71",
-        instruction::LOAD,
-        3,
-        1,
-        2,
-        base,
-        index,
-    )?;
-    third(rt, state)
-}
-
-// A branch to a label outside the code.
-fn beq(rt: &impl Print, a: u32, b: u32) -> io::Result<()> {
-    one_step(
-        rt,
-        "beq $1 $2 99 in a code of 2",
-        instruction::BEQ,
-        1,
-        2,
-        99,
-        a,
-        b,
-    )?;
-    show::text(rt, "\n")
-}
-
-// Signed order, exact addresses, and the label of a branch.
+// Signed order, exact addresses, and the label of a branch outside the code.
 pub(crate) fn steps(rt: &impl Print) -> io::Result<()> {
-    slt(rt, 4294967295, 0)?;
-    load(rt, 2147483647, 1)?;
-    load(rt, 65535, 4294901761)?;
-    load(rt, 2147483648, 2147483648)?;
-    load(rt, 2147483648, 2147483649)?;
-    beq(rt, 0, 1)?;
-    beq(rt, 1, 1)
+    let slt = Single {
+        name: "slt $3 $1 $2",
+        words: words(Operation::Slt, 3, 1, 2),
+    };
+    let load = Single {
+        name: "load $3 $1[$2] of cells 70 71",
+        words: words(Operation::Load, 3, 1, 2),
+    };
+    let beq = Single {
+        name: "beq $1 $2 99 in a code of 2",
+        words: words(Operation::Beq, 1, 2, 99),
+    };
+    let less = slt.step(rt, -1, 0)?;
+    println!(rt; ", $3 = {less}")?;
+    for (base, index) in [
+        (i32::MAX, 1),
+        (65535, -65535),
+        (i32::MIN, i32::MIN),
+        (i32::MIN, -i32::MAX),
+    ] {
+        let loaded = load.step(rt, base, index)?;
+        println!(rt; ", $3 = {loaded}")?;
+    }
+    for a in [0, 1] {
+        beq.step(rt, a, 1)?;
+        println!(rt)?;
+    }
+    Ok(())
 }

@@ -1,66 +1,59 @@
-// Tables of nodes, put together by rows in an array that holds a row more than is taken, and the deepest of 1,023 and 1,024 rows.
-ghost use Rattle.std.specs.Prelude.{◌<◌};
+// Tables of nodes, a row of four words each: the deepest of 1,023 and 1,024 rows.
+use rule::{Command, Expression, Kind, NODE_WORDS};
 
-// Puts a row into the table.
-pub(crate) fn put(nodes: &mut [u32; 4100], row: u32, kind: u32, a: u32, b: u32, c: u32)
-    requires { row < 1025 }
-{
-    let at = row as usize * 4;
-    nodes[at] = kind;
-    nodes[at + 1] = a;
-    nodes[at + 2] = b;
-    nodes[at + 3] = c;
+// A kind and three words, 0 where they are not used.
+pub(crate) type Row = [u32; NODE_WORDS];
+
+// The row of an expression, which uses two words at most.
+// The demonstration has a function like it: the crate that both programs share, `wording`, is about words.
+pub(crate) fn expression(kind: Expression, a: u32, b: u32) -> Row {
+    [u32::from(Kind::Expression(kind)), a, b, 0]
 }
 
-// So many rows of four words, or instructions, at the front.
-pub(crate) fn front(words: &[u32], rows: u32) -> &[u32] {
-    let end = rows as usize * 4;
-    if words.len() < end {
-        return words;
-    }
-    &words[0..end]
-}
-
-// So many rows of the table.
-pub(crate) fn rows(nodes: &[u32; 4100], count: u32) -> &[u32] {
-    front(nodes, count)
+// The row of a command.
+pub(crate) fn command(kind: Command, a: u32, b: u32, c: u32) -> Row {
+    [u32::from(Kind::Command(kind)), a, b, c]
 }
 
 // x := not not .. 0 with 1,021 nots: 1,023 rows, each the only child of the next.
-pub(crate) fn nots(nodes: &mut [u32; 4100]) {
-    put(nodes, 0, rule::VALUE, 0, 0, 0);
-    let mut row: u32 = 1;
-    while row < 1022 {
-        put(nodes, row, rule::NOT, row - 1, 0, 0);
-        row += 1;
+pub(crate) fn nots() -> [Row; 1023] {
+    let mut nodes = [expression(Expression::Value, 0, 0); 1023];
+    for row in 1..1022 {
+        nodes[row as usize] = expression(Expression::Not, row - 1, 0);
     }
-    put(nodes, 1022, rule::ASSIGN, 0, 1021, 0);
+    nodes[1022] = command(Command::Assign, 0, 1021, 0);
+    nodes
 }
 
-// x := 7 and 511 skips in 511 sequences, 1,024 rows. What came before is the first of each, or the second.
-pub(crate) fn sequences(nodes: &mut [u32; 4100], second: bool) {
-    put(nodes, 0, rule::VALUE, 7, 0, 0);
-    put(nodes, 1, rule::ASSIGN, 0, 0, 0);
-    let mut row: u32 = 2;
-    while row < 1024 {
-        put(nodes, row, rule::SKIP, 0, 0, 0);
-        if second {
-            put(nodes, row + 1, rule::SEQUENCE, row, row - 1, 0);
-        } else {
-            put(nodes, row + 1, rule::SEQUENCE, row - 1, row, 0);
-        }
-        row += 2;
-    }
+// Where a sequence has what came before it.
+#[derive(Clone, Copy)]
+pub(crate) enum Nested {
+    First,
+    Second,
 }
 
-// 341 ifs, 1,024 rows. What came before is the then part of each, whose test is true.
-pub(crate) fn ifs(nodes: &mut [u32; 4100]) {
-    put(nodes, 0, rule::SKIP, 0, 0, 0);
-    let mut row: u32 = 1;
-    while row < 1023 {
-        put(nodes, row, rule::VALUE, 1, 0, 0);
-        put(nodes, row + 1, rule::SKIP, 0, 0, 0);
-        put(nodes, row + 2, rule::IF, row, row - 1, row + 1);
-        row += 3;
+// x := 7 and 511 skips in 511 sequences, 1,024 rows.
+pub(crate) fn sequences(nested: Nested) -> [Row; 1024] {
+    let mut nodes = [command(Command::Skip, 0, 0, 0); 1024];
+    nodes[0] = expression(Expression::Value, 7, 0);
+    nodes[1] = command(Command::Assign, 0, 0, 0);
+    for turn in 1..512 {
+        let skip = 2 * turn;
+        nodes[skip as usize + 1] = match nested {
+            Nested::First => command(Command::Sequence, skip - 1, skip, 0),
+            Nested::Second => command(Command::Sequence, skip, skip - 1, 0),
+        };
     }
+    nodes
+}
+
+// 341 ifs, 1,024 rows, and a row more than is taken. What came before is the then part of each, whose test is true.
+pub(crate) fn ifs() -> [Row; 1025] {
+    let mut nodes = [command(Command::Skip, 0, 0, 0); 1025];
+    for turn in 0..341 {
+        let test = 3 * turn + 1;
+        nodes[test as usize] = expression(Expression::Value, 1, 0);
+        nodes[test as usize + 2] = command(Command::If, test, test - 1, test + 1);
+    }
+    nodes
 }

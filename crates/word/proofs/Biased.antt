@@ -1,7 +1,10 @@
--- A word with 2^31 added, wrapped: its order is that of the signed numbers, and its sums give the exact address.
-use Rattle.std.proofs.Common.{◌≡◌, ℕ, suc, ◌+◌, ◌-◌, ◌%◌, ◌<◌, ◌≤◌, Bool, true, false, cond, ltb, ℤ, pos, negsuc, ◌+ℤ◌, sym, refl, ap, ◌∙◌, subst, arith, ltb-false, ltb-true, le-ltb, lt-ltb}
+-- A word with 2^31 added, wrapped: sums of two give the exact address.
+-- Assumes nothing.
+use Rattle.std.proofs.Common.{◌≡◌, ℕ, suc, ◌+◌, ◌-◌, ◌%◌, ◌<◌, ◌≤◌, Bool, true, false, ltb, pos, negsuc, ◌+ℤ◌, sym, refl, ap, ◌∙◌, subst, arith, ltb-false, ltb-true, le-ltb, lt-ltb}
 use lib.IntN.{sub_ℕ}
-use Rattle.word.specs.Word.{signed, less_of, address_of, cell_of, Cell, At, Nowhere}
+use Rattle.word.specs.Word.{signed, address_of, cell_of, At, Nowhere}
+pub use Rattle.word.proofs.Signed.{signed_low, signed_high}
+pub use Rattle.word.proofs.Cells.{cell_within}
 
 -- a word with 2^31 added, wrapped: 0 for the least signed number
 abbrev pub biased : ℕ → ℕ
@@ -49,34 +52,6 @@ sub_shift x y u v h = go (ltb x y) refl
     go false e =
         let k = ltb-false x y e in
         rw (e, le-ltb u v (omega arith)) (ap pos (omega arith))
-
-pub signed_low : (a : ℕ) → ltb a 2147483648 ≡ true → signed a ≡ pos a
-unfolding signed
-signed_low a e = ap (λ (t : Bool). cond t (pos a) (negsuc (4294967295 - a))) e
-
-pub signed_high : (a : ℕ) → ltb a 2147483648 ≡ false → signed a ≡ negsuc (4294967295 - a)
-unfolding signed
-signed_high a e = ap (λ (t : Bool). cond t (pos a) (negsuc (4294967295 - a))) e
-
--- "Comparison is signed": the order of biased words
-pub less_law : (a b : ℕ) → a < 4294967296 → b < 4294967296 → ltb (biased a) (biased b) ≡ less_of a b
-unfolding less_of
-less_law a b ha hb = go (ltb a 2147483648) refl (ltb b 2147483648) refl
-  where
-    go : (s : Bool) → ltb a 2147483648 ≡ s → (t : Bool) → ltb b 2147483648 ≡ t → ltb (biased a) (biased b) ≡ less_of a b
-    go true p true q =
-        let h = ltb-true a _ p in let k = ltb-true b _ q in
-        rw (signed_low a p, signed_low b q) (ltb_same (biased a) (biased b) a b (omega arith) (omega arith))
-    go true p false q =
-        let h = ltb-true a _ p in let k = ltb-false b _ q in
-        rw (signed_low a p, signed_high b q) (le-ltb (biased a) (biased b) (omega arith))
-    go false p true q =
-        let h = ltb-false a _ p in let k = ltb-true b _ q in
-        rw (signed_high a p, signed_low b q) (lt-ltb (biased a) (biased b) (omega arith))
-    go false p false q =
-        let h = ltb-false a _ p in let k = ltb-false b _ q in
-        rw (signed_high a p, signed_high b q)
-        (ltb_same (biased a) (biased b) (4294967295 - b) (4294967295 - a) (omega arith) (omega arith))
 
 -- the exact sum of two words is the sum of the biased words, less 2^32
 pub address_law : (a b : ℕ) → a < 4294967296 → b < 4294967296 → signed a +ℤ signed b ≡ sub_ℕ (biased a + biased b) 4294967296
@@ -141,13 +116,3 @@ module _ (a b size : ℕ) (ha : a < 4294967296) (hb : b < 4294967296) where
         go false e =
             let k = ltb-false (biased a + biased b) 4294967296 e in
             cell_past k (subst (λ (n : ℕ). size ≤ n) (exactly k) h)
-
--- a cell that an address leads to is one of the memory's
-pub cell_within : (z : ℤ) (size : ℕ) {o : Cell} {k : ℕ} → o ≡ cell_of z size → o ≡ At k → k < size
-unfolding cell_of
-cell_within (pos n) size {o} {k} e f = go (ltb n size) refl (sym e ∙ f)
-  where
-    go : (t : Bool) → ltb n size ≡ t → cond t (At n) Nowhere ≡ At k → k < size
-    go true p q = let h = ltb-true n size p in let i : n ≡ k = cc in omega arith
-    go false p q = let i : Nowhere ≡ At k = q in let z : ◌≡◌ {A = ℕ} 0 1 = cc in omega arith
-cell_within (negsuc n) size {o} {k} e f = let g : Nowhere ≡ At k = sym e ∙ f in let z : ◌≡◌ {A = ℕ} 0 1 = cc in omega arith

@@ -1,83 +1,106 @@
--- `compile`: refusals 1 and 2, then 3, and past them what the tables give.
-use mathlib.Core.Path.{◌≡◌, refl, sym, ap, ◌∙◌}
-use mathlib.Core.List.{List}
-use Prim.Native.Nat.{ℕ, ◌%◌}
-use lib.ListN.{length}
-use Rattle.refusal.specs.declared.Verdict.{Verdict}
-use Rattle.refusal.specs.declared.Verdict.TheVariants.{Passes, Refuses}
-use Rattle.refusal.specs.Refusal.{◌and_then◌}
-use Rattle.rule.specs.Check.{node_words, declaration_words}
-use Rattle.rule.proofs.Verdicts.{both_pass}
-use Rattle.rule.proofs.Answers.{words_verdict}
-use Rattle.compiler.specs.Answer.{refused, pool_bit, compiled, verdict}
-use Rattle.compiler.proofs.Answers.{bit_set, bit_clear, after_passed}
-use Rattle.compiler.proofs.Ready.{tables_rest, words_then, said_by, leaves_by}
+-- `compile`: the checks in their order, and past them what the tables give.
+use Rattle.std.proofs.Common.{◌≡◌, refl, sym, ap, ◌∙◌, ℕ, List, length, Result, arith}
+use Rattle.std.specs.Prelude.{Err}
+use Rattle.std.proofs.lemmas.Result.{err_from_is_err_and}
+use Rattle.refusal.specs.declared.Refusal.{Refusal}
+use Rattle.refusal.specs.Refusal.{Passes, number_of, value_of, ◌and_then◌}
+use Rattle.rule.specs.Check.{node_words, declaration_words, declared, nodes}
+use Rattle.rule.proofs.Answers.{words_verdict, rows_verdict, layout_verdict}
+use Rattle.compiler.specs.declared.Accepted.{Accepted}
+use Rattle.compiler.specs.Answer.{refused, need, instructions, rest, said_as, compile_said, compiled, leaves}
+use Rattle.compiler.proofs.Ready.{Ready, ready, layout_based, layout_counts, compiled_from, leaves_by}
 use Rattle.compiler.proofs.compile.Goals as goal
+use Rattle.compiler.proofs.compile.Goals.{In_ok-check_words, In_ok-check_pool, In_ok-layout, In_ok-check_rows}
 
-module _ (ds ns : List ℕ) (pool words : ℕ) where
-  -- what 1 and 2 say
-  words_say : {v w : Verdict} → v ≡ node_words (length ns) and_then declaration_words (length ds) → v ≡ w
-      → verdict ds ns pool words ≡ w and_then pool_bit pool and_then tables_rest ds ns pool words
-  words_say e q = words_then ds ns pool words _ (sym e ∙ q)
+-- what has passed
+words_pass : (c : In_ok-check_words) → Passes ≡ node_words (length c.args.nodes.now) and_then declaration_words (length c.args.declarations.now)
+words_pass c = words_verdict _ _ _ c.in_ok-check_words.ensures
 
-  refused_by : {n v : ℕ} → verdict ds ns pool words ≡ Refuses n v → refused n v ≡ compiled ds ns pool words
-  refused_by e = said_by ds ns pool words e
+declarations_pass : (c : In_ok-layout) → Passes ≡ declared c.args.declarations.now
+declarations_pass c = layout_verdict c.args.declarations.now _ c.in_ok-layout.ensures
 
-  -- refusal 3
-  odd : {v : Verdict} → v ≡ node_words (length ns) and_then declaration_words (length ds) → v ≡ Passes
-      → pool % 2 ≡ 1 → refused 3 0 ≡ compiled ds ns pool words
-  odd e q h = refused_by (words_say e q ∙ ap (λ (v : Verdict). v and_then tables_rest ds ns pool words) (bit_set pool h))
+rows_pass : (c : In_ok-check_rows) → Passes ≡ nodes c.args.declarations.now c.args.nodes.now
+rows_pass c = rows_verdict c.args.declarations.now c.args.nodes.now _ c.in_ok-check_rows.ensures
 
-  even : {v : Verdict} → v ≡ node_words (length ns) and_then declaration_words (length ds) → v ≡ Passes
-      → (pool % 2 ≡ 1 → ⊥) → verdict ds ns pool words ≡ tables_rest ds ns pool words
-  even e q h = words_say e q ∙ after_passed _ _ (bit_clear pool h)
+is_ready : (c : In_ok-check_rows) → Ready c.args.declarations.now c.args.nodes.now
+is_ready c = ready _ _ (sym (words_verdict _ _ _ c.in_ok-check_words.ensures)) (sym (rows_pass c))
 
-pub returns-then-pool-eq1-clause-answer : goal.returns-then-pool-eq1-clause-answer
-returns-then-pool-eq1-clause-answer c =
-    odd c.args.declarations.now c.args.nodes.now c.args.pool (length c.args.code.now) (words_verdict _ _ c.check_words-words.ensures) c.in-Passes.is c.if-pool-eq1.true
+-- where a refusal is given, nothing is written
+module _ (ds ns : List ℕ) (pool : ℕ) (code : List ℕ) {a : Result Accepted Refusal} {r : Refusal} (is : a ≡ Err r)
+    (e : refused (number_of r) (value_of r) ≡ compiled ds ns pool (length code)) where
+  refused_answer : compile_said a ≡ compiled ds ns pool (length code)
+  refused_answer = ap compile_said is ∙ e
 
-pub returns-then-pool-eq1-clause-buffer : goal.returns-then-pool-eq1-clause-buffer
-returns-then-pool-eq1-clause-buffer c =
+  refused_buffer : code ≡ leaves ds ns pool code
+  refused_buffer = leaves_by ds ns pool code code _ e refl
+
+pub returns-in_err-check_words : goal.returns-in_err-check_words
+returns-in_err-check_words c =
     let ds = c.args.declarations.now in
     let ns = c.args.nodes.now in
     let code = c.args.code.now in
-    leaves_by ds ns c.args.pool code code _
-    (odd ds ns c.args.pool (length code) (words_verdict _ _ c.check_words-words.ensures) c.in-Passes.is c.if-pool-eq1.true) refl
+    let left = err_from_is_err_and c.from_residual.result c.from_residual.ensures.1 in
+    let is = left.1 ∙ ap Err left.2 in
+    let e = compiled_from ds ns c.args.pool (length code) (words_verdict _ _ _ c.in_err-check_words.ensures) refl refl refl in
+    record { answer = refused_answer ds ns c.args.pool code is e; buffer = refused_buffer ds ns c.args.pool code is e }
 
-pub compile_tables-requires-clause-nodes_value : goal.compile_tables-requires-clause-nodes_value
-compile_tables-requires-clause-nodes_value c = (both_pass _ _ (sym (words_verdict _ _ c.check_words-words.ensures) ∙ c.in-Passes.is)).0
-
-pub compile_tables-requires-clause-declarations_value : goal.compile_tables-requires-clause-declarations_value
-compile_tables-requires-clause-declarations_value c = (both_pass _ _ (sym (words_verdict _ _ c.check_words-words.ensures) ∙ c.in-Passes.is)).1
-
-pub returns-in-Refuses-clause-answer : goal.returns-in-Refuses-clause-answer
-returns-in-Refuses-clause-answer c =
-    let ds = c.args.declarations.now in
-    let ns = c.args.nodes.now in
-    let k = length c.args.code.now in
-    refused_by ds ns c.args.pool k (words_say ds ns c.args.pool k (words_verdict _ _ c.check_words-words.ensures) c.in-Refuses.is)
-
-pub returns-in-Refuses-clause-buffer : goal.returns-in-Refuses-clause-buffer
-returns-in-Refuses-clause-buffer c =
+pub returns-in_err-check_pool : goal.returns-in_err-check_pool
+returns-in_err-check_pool c =
     let ds = c.args.declarations.now in
     let ns = c.args.nodes.now in
     let code = c.args.code.now in
-    let k = length code in
-    leaves_by ds ns c.args.pool code code _
-    (refused_by ds ns c.args.pool k (words_say ds ns c.args.pool k (words_verdict _ _ c.check_words-words.ensures) c.in-Refuses.is)) refl
+    let w = words_pass (goal.at.returns-in_err-check_pool c).In_ok-check_words in
+    let left = err_from_is_err_and c.from_residual-in_err-check_pool.result c.from_residual-in_err-check_pool.ensures.1 in
+    let is = left.1 ∙ ap Err left.2 in
+    let e = compiled_from ds ns c.args.pool (length code) w c.in_err-check_pool.ensures refl refl in
+    record { answer = refused_answer ds ns c.args.pool code is e; buffer = refused_buffer ds ns c.args.pool code is e }
 
-pub returns-else-pool-eq1-clause-answer : goal.returns-else-pool-eq1-clause-answer
-returns-else-pool-eq1-clause-answer c =
-    let ds = c.args.declarations.now in
-    let ns = c.args.nodes.now in
-    let k = length c.args.code.now in
-    let v = even ds ns c.args.pool k (words_verdict _ _ c.check_words-words.ensures) c.in-Passes.is c.if-pool-eq1.false in
-    c.compile_tables.ensures.answer ∙ said_by ds ns c.args.pool k v
-
-pub returns-else-pool-eq1-clause-buffer : goal.returns-else-pool-eq1-clause-buffer
-returns-else-pool-eq1-clause-buffer c =
+pub returns-in_err-layout : goal.returns-in_err-layout
+returns-in_err-layout c =
     let ds = c.args.declarations.now in
     let ns = c.args.nodes.now in
     let code = c.args.code.now in
-    let v = even ds ns c.args.pool (length code) (words_verdict _ _ c.check_words-words.ensures) c.in-Passes.is c.if-pool-eq1.false in
-    leaves_by ds ns c.args.pool code _ _ (c.compile_tables.ensures.answer ∙ said_by ds ns c.args.pool (length code) v) c.compile_tables.ensures.buffer
+    let w = words_pass (goal.at.returns-in_err-layout c).In_ok-check_words in
+    let left = err_from_is_err_and c.from_residual-in_err-layout.result c.from_residual-in_err-layout.ensures.1 in
+    let is = left.1 ∙ ap Err left.2 in
+    let e = compiled_from ds ns c.args.pool (length code) w c.in_ok-check_pool.ensures (layout_verdict ds _ c.in_err-layout.ensures) refl in
+    record { answer = refused_answer ds ns c.args.pool code is e; buffer = refused_buffer ds ns c.args.pool code is e }
+
+pub returns-in_err-check_rows : goal.returns-in_err-check_rows
+returns-in_err-check_rows c =
+    let ds = c.args.declarations.now in
+    let ns = c.args.nodes.now in
+    let code = c.args.code.now in
+    let at = goal.at.returns-in_err-check_rows c in
+    let left = err_from_is_err_and c.from_residual-in_err-check_rows.result c.from_residual-in_err-check_rows.ensures.1 in
+    let is = left.1 ∙ ap Err left.2 in
+    let e =
+    compiled_from ds ns c.args.pool (length code) (words_pass at.In_ok-check_words) c.in_ok-check_pool.ensures (declarations_pass at.In_ok-layout)
+    (rows_verdict ds ns _ c.in_err-check_rows.ensures) in
+    record { answer = refused_answer ds ns c.args.pool code is e; buffer = refused_buffer ds ns c.args.pool code is e }
+
+pub invariant_of-tables : goal.invariant_of-tables
+invariant_of-tables c =
+    let at = goal.at.invariant_of-tables c in
+    record {
+      rows = (is_ready at.In_ok-check_rows).rows_fit;
+      based = layout_based c.args.declarations.now _ c.in_ok-layout.ensures;
+    }
+
+pub generate-requires : goal.generate-requires
+generate-requires c =
+    let r = is_ready (goal.at.generate-requires c).In_ok-check_rows in
+    let n = r.small in
+    record { some = r.some; com_row = r.last; row_bound = omega arith }
+
+pub returns : goal.returns
+returns c =
+    let ds = c.args.declarations.now in
+    let ns = c.args.nodes.now in
+    let code = c.args.code.now in
+    let at = goal.at.returns c in
+    let e =
+    c.generate.ensures.answer
+    ∙ ap (λ (k : ℕ). said_as (instructions ds ns) k (need ds ns) (rest ds ns c.args.pool (length code))) (layout_counts ds _ c.in_ok-layout.ensures)
+    ∙ compiled_from ds ns c.args.pool (length code) (words_pass at.In_ok-check_words) c.in_ok-check_pool.ensures (declarations_pass at.In_ok-layout) (rows_pass at.In_ok-check_rows) in
+    record { answer = e; buffer = leaves_by ds ns c.args.pool code _ _ e c.generate.ensures.buffer }

@@ -1,30 +1,18 @@
 -- `mark`: at each turn the labels that the instructions below name are marked.
-use mathlib.Core.Path.{◌≡◌, sym, ap, ◌∙◌, subst}
-use Prim.Native.Nat.{ℕ, ◌+◌}
+use mathlib.Core.Path.{sym, ◌∙◌}
 use native.Mathlib.Omega.{arith}
-use Rattle.instruction.specs.Instruction.{count_of}
-use Rattle.listing.specs.declared.Target.{Target}
-use Rattle.listing.specs.Listing.{inside}
-use Rattle.listing.specs.Inside.{most, marked, Marked}
-use Rattle.listing.proofs.Marks.{inside_at, mark_next}
+use Rattle.std.specs.Prelude.{Some, None}
+use Rattle.listing.proofs.Marks.{label_below, mark_next}
+use Rattle.listing.proofs.mark.Goals.{in-Some, in_default}
 use Rattle.listing.proofs.mark.Goals as goal
 
-pub loop-p-init : goal.loop-p-init
-loop-p-init c = (omega arith, c.requires.1)
+pub bounds-marks-label : goal.bounds-marks-label
+bounds-marks-label c = label_below c.args.code.now.sound _ (omega arith) _ c.instruction.ensures _ (sym c.in-Some.ensures)
 
-pub set_mark-requires : goal.set_mark-requires
-set_mark-requires c = ap (inside most) c.named_by.ensures ∙ inside_at c.requires.0 _ _ _ _ _ c.loop-p-test.true c.words_at-w.ensures
-
-pub loop-p-preserved : goal.loop-p-preserved
-loop-p-preserved c =
-    let turn = c.loop-p in
-    let code = c.args.code.now in
-    let e = c.set_mark.ensures ∙ ap (λ (t : Target). marked t turn.marks) c.named_by.ensures in
-    (omega arith, subst (Marked code (turn.p + 1)) (sym e) (mark_next c.requires.0 _ _ _ _ _ c.loop-p-test.true c.words_at-w.ensures turn.marks turn.invariant.1))
-
-pub returns : goal.returns
-returns c =
-    let turn = c.loop-p in
-    let code = c.args.code.now in
-    let e : turn.p ≡ count_of code = omega arith in
-    subst (λ (n : ℕ). Marked code n turn.marks) e turn.invariant.1
+pub instructions-preserved : goal.instructions-preserved
+instructions-preserved c =
+    let next = mark_next c.args.code.now.sound c.instructions.place (omega arith) _ c.instruction.ensures in
+    elim c.match-named_by.branch [
+      | in-Some w ↦ rw w.marks-is (next (Some _) w.in-Some.ensures _ c.instructions.invariant)
+      | in_default w ↦ rw w.marks-is (next None (sym w.in_default.is ∙ c.named_by.ensures) _ c.instructions.invariant)
+    ]

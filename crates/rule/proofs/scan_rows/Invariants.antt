@@ -1,6 +1,5 @@
 -- `scan_rows`: at each turn the rows below are in order and their children marked; at the end the marks tell refusal 10.
 use mathlib.Core.Path.{◌≡◌}
-use Prim.Native.Nat.{◌-◌, ◌≤◌}
 use Rattle.rule.specs.Table.{node_rows}
 use Rattle.rule.specs.Check.{row_no, rows as rows_of}
 use Rattle.rule.specs.Marks.{marked}
@@ -9,7 +8,4 @@ use Rattle.rule.proofs.scan_rows.Given as goal
 
 abbrev pub invariant-loop-row : goal.invariant-loop-row
 invariant-loop-row l =
-    (l.row ≤ node_rows l.nodes) × (l.marks ≡ marked l.nodes l.row) × (rows_of l.declarations l.nodes ≡ numbered_from (row_no l.declarations l.nodes) (node_rows l.nodes) l.row)
-
-abbrev pub decreases-loop-row : goal.decreases-loop-row
-decreases-loop-row l = node_rows l.nodes - l.row
+    (l.marks ≡ marked l.nodes l.row) × (rows_of l.declarations l.nodes ≡ numbered_from (row_no l.declarations l.nodes) (node_rows l.nodes) l.row)
