@@ -42,6 +42,7 @@ pub Based-prop : (ds bases : List ℕ) → IsProp (Based ds bases)
 Based-prop ds bases = hlevel props
 
 -- row i is there, and of its sort
+-- Which row a call is about differs from call to call, so that this is asked of each and is no field of the tables.
 pub record ExpRow (ns : List ℕ) (i : ℕ) : Type 0 where
   pub there : i * 4 + 3 < length ns
   pub sort : is_expression (kind_at ns i) ≡ true
@@ -81,11 +82,15 @@ pub record Emitted (l l' : List ℕ) (p q : ℕ) (c : List Instruction) : Type 0
 abbrev pub HasRoom : Code → ℕ → Type 0
 HasRoom k n = Room k.words.now k.at n
 
--- k' is the code k with the instructions c laid where it goes on
-abbrev pub Lays : Code → Code → List Instruction → Type 0
-Lays k k' c = Emitted k.words.now k'.words.now k.at k'.at c
+-- k' is the code k, in the same buffer, with the instructions c laid where it goes on
+pub record Lays (k k' : Code) (c : List Instruction) : Type 0 where
+  pub same : k'.words.ghost_name ≡ k.words.ghost_name
+  pub next : k'.at ≡ k.at + length c
+  pub code : k'.words.now ≡ put k.words.now k.at c
+  pub kept : length k'.words.now ≡ length k.words.now
 
 -- registers and room enough
+-- Room and registers are asked of each call, since room shrinks with every instruction and the registers with every operand.
 pub record Fit (ρ : ℕ → Binding) (e : Exp) (k : Code) (F : List ℕ) : Type 0 where
   pub need : need_exp ρ e ≤ length F
   pub room : HasRoom k (size_exp ρ e)

@@ -32,10 +32,10 @@ impl Code<'_> {
     }
 
     // One instruction, at the next place.
+    // Five parameters: an instruction's three words differ at each call. A struct of them would be made at the call and taken apart at once.
     pub(crate) fn put(&mut self, operation: Operation, a: u32, b: u32, c: u32)
         requires { HasRoom self.old 1 }
-        ensures emitted { Lays self.old self.new (ins (operation_number operation) a b c ∷ []) }
-        ensures same { self.new.words.ghost_name ≡ self.old.words.ghost_name }
+        ensures { Lays self.old self.new (ins (operation_number operation) a b c ∷ []) }
     {
         self.put_at(self.at, operation, a, b, c);
         self.at += 1;

@@ -17,8 +17,7 @@ impl Code<'_> {
     #[tactic(auto, using(crate::proofs::Emitting::put_append))]
     pub(crate) fn emit_not(&mut self, target: u32, t: u32)
         requires { HasRoom self.old 3 }
-        ensures emitted { Lays self.old self.new (not_code target t self.old.at) }
-        ensures same { self.new.words.ghost_name ≡ self.old.words.ghost_name }
+        ensures { Lays self.old self.new (not_code target t self.old.at) }
     {
         let end = self.label(3);
         self.put(Operation::Addi, target, 1, 0);
@@ -30,8 +29,7 @@ impl Code<'_> {
     #[tactic(auto, using(crate::proofs::Emitting::put_append))]
     fn emit_equal(&mut self, target: u32, t: u32, u: u32)
         requires { HasRoom self.old 4 }
-        ensures emitted { Lays self.old self.new (operator_code equal target t u self.old.at) }
-        ensures same { self.new.words.ghost_name ≡ self.old.words.ghost_name }
+        ensures { Lays self.old self.new (operator_code equal target t u self.old.at) }
     {
         let equal = self.label(3);
         let end = self.label(4);
@@ -53,8 +51,7 @@ impl Code<'_> {
         last: u32,
     )
         requires { HasRoom self.old 4 }
-        ensures emitted { Lays self.old self.new (either_way (operation_number branch) target t u before last (after 4 self.old.at)) }
-        ensures same { self.new.words.ghost_name ≡ self.old.words.ghost_name }
+        ensures { Lays self.old self.new (either_way (operation_number branch) target t u before last (after 4 self.old.at)) }
     {
         let end = self.label(4);
         self.put(Operation::Addi, target, before, 0);
@@ -66,8 +63,7 @@ impl Code<'_> {
     // The own instructions of a binary, by its operator.
     pub(crate) fn emit_operator(&mut self, operator: Operator, target: u32, t: u32, u: u32)
         requires { HasRoom self.old (size_op (op_said operator)) }
-        ensures emitted { Lays self.old self.new (operator_code (op_said operator) target t u self.old.at) }
-        ensures same { self.new.words.ghost_name ≡ self.old.words.ghost_name }
+        ensures { Lays self.old self.new (operator_code (op_said operator) target t u self.old.at) }
     {
         match operator {
             Operator::Plus => self.put(Operation::Add, target, t, u),
@@ -85,8 +81,7 @@ impl Code<'_> {
     pub(crate) fn emit_load(&mut self, first: u32, target: u32, t: u32, pool: Pool)
         requires some { 0 < length (registers_of pool.bits) }
         requires room { HasRoom self.old 2 }
-        ensures emitted { Lays self.old self.new (load_code first target t (registers_of pool.bits)) }
-        ensures same { self.new.words.ghost_name ≡ self.old.words.ghost_name }
+        ensures { Lays self.old self.new (load_code first target t (registers_of pool.bits)) }
     {
         let bx = pool.lowest();
         self.put(Operation::Addi, bx, first, 0);
@@ -99,8 +94,7 @@ impl Code<'_> {
     pub(crate) fn emit_store(&mut self, first: u32, t: u32, u: u32, pool: Pool)
         requires some { 0 < length (registers_of pool.bits) }
         requires room { HasRoom self.old 2 }
-        ensures emitted { Lays self.old self.new (store_code first t u (registers_of pool.bits)) }
-        ensures same { self.new.words.ghost_name ≡ self.old.words.ghost_name }
+        ensures { Lays self.old self.new (store_code first t u (registers_of pool.bits)) }
     {
         let bx = pool.lowest();
         self.put(Operation::Addi, bx, first, 0);

@@ -30,8 +30,7 @@ impl Tables<'_> {
         requires declared { x < declaration_rows self.now.declarations.now }
         requires need { need_named (binding_of self.now.declarations.now x) ≤ length (registers_of pool.bits) }
         requires room { HasRoom code.old (size_named (binding_of self.now.declarations.now x)) }
-        ensures emitted { Lays code.old code.new (named_code (binding_of self.now.declarations.now x) target (registers_of pool.bits)) }
-        ensures same { code.new.words.ghost_name ≡ code.old.words.ghost_name }
+        ensures { Lays code.old code.new (named_code (binding_of self.now.declarations.now x) target (registers_of pool.bits)) }
     {
         match self.constant(x) {
             Some(value) => code.put(Operation::Addi, target, value, 0),
@@ -49,7 +48,6 @@ impl Tables<'_> {
         ensures register { result.0 ≡ fresh (registers_of pool.bits) }
         ensures rest { registers_of result.1.bits ≡ without (registers_of pool.bits) }
         ensures emitted { Lays code.old code.new (t_exp (binding_of self.now.declarations.now) (exp_at self.now.nodes.now (word_of self.now.nodes.now row k)) (fresh (registers_of pool.bits)) (without (registers_of pool.bits)) code.old.at) }
-        ensures same { code.new.words.ghost_name ≡ code.old.words.ghost_name }
     {
         let register = pool.lowest();
         let rest = pool.less_lowest();
@@ -58,13 +56,13 @@ impl Tables<'_> {
     }
 
     // The expression of a row into the target.
+    // Five parameters: row, target, pool and code differ at each call. A struct of them would be made at the call and taken apart at once.
     #[cycle(expression)]
     #[tactic(auto, using(crate::proofs::Emits::emits), unfolding(crate::specs::Compile::need_exp, crate::specs::Compile::size_exp, crate::specs::Compile::t_exp))]
     fn emit_exp(&self, row: usize, target: u32, pool: Pool, code: &mut Code<'_>)
         requires exp_row { ExpRow self.now.nodes.now row }
         requires fit { Fit (binding_of self.now.declarations.now) (exp_at self.now.nodes.now row) code.old (registers_of pool.bits) }
-        ensures emitted { Lays code.old code.new (t_exp (binding_of self.now.declarations.now) (exp_at self.now.nodes.now row) target (registers_of pool.bits) code.old.at) }
-        ensures same { code.new.words.ghost_name ≡ code.old.words.ghost_name }
+        ensures { Lays code.old code.new (t_exp (binding_of self.now.declarations.now) (exp_at self.now.nodes.now row) target (registers_of pool.bits) code.old.at) }
     {
         match self.expression(row) {
             Expression::Value => code.put(Operation::Addi, target, self.word(row, 1), 0),
@@ -91,8 +89,7 @@ impl Tables<'_> {
         requires com_row { ComRow self.now.nodes.now row }
         requires assigns { kind_at self.now.nodes.now row ≡ an_assign }
         requires fit_com { FitCom (binding_of self.now.declarations.now) (com_at self.now.nodes.now row) code.old (registers_of pool.bits) }
-        ensures emitted { Lays code.old code.new (t_com (binding_of self.now.declarations.now) (com_at self.now.nodes.now row) (registers_of pool.bits) code.old.at) }
-        ensures same { code.new.words.ghost_name ≡ code.old.words.ghost_name }
+        ensures { Lays code.old code.new (t_com (binding_of self.now.declarations.now) (com_at self.now.nodes.now row) (registers_of pool.bits) code.old.at) }
     {
         let (t, rest) = self.emit_operand(row, 2, pool, code);
         code.emit_store(self.base(self.link(row, 1)), 0, t, rest);
@@ -104,8 +101,7 @@ impl Tables<'_> {
         requires com_row { ComRow self.now.nodes.now row }
         requires assigns { kind_at self.now.nodes.now row ≡ an_assign_at }
         requires fit_com { FitCom (binding_of self.now.declarations.now) (com_at self.now.nodes.now row) code.old (registers_of pool.bits) }
-        ensures emitted { Lays code.old code.new (t_com (binding_of self.now.declarations.now) (com_at self.now.nodes.now row) (registers_of pool.bits) code.old.at) }
-        ensures same { code.new.words.ghost_name ≡ code.old.words.ghost_name }
+        ensures { Lays code.old code.new (t_com (binding_of self.now.declarations.now) (com_at self.now.nodes.now row) (registers_of pool.bits) code.old.at) }
     {
         let (t, rest) = self.emit_operand(row, 2, pool, code);
         let (u, left) = self.emit_operand(row, 3, rest, code);
@@ -117,8 +113,7 @@ impl Tables<'_> {
     pub(crate) fn emit_com(&self, row: usize, pool: Pool, code: &mut Code<'_>)
         requires com_row { ComRow self.now.nodes.now row }
         requires fit_com { FitCom (binding_of self.now.declarations.now) (com_at self.now.nodes.now row) code.old (registers_of pool.bits) }
-        ensures emitted { Lays code.old code.new (t_com (binding_of self.now.declarations.now) (com_at self.now.nodes.now row) (registers_of pool.bits) code.old.at) }
-        ensures same { code.new.words.ghost_name ≡ code.old.words.ghost_name }
+        ensures { Lays code.old code.new (t_com (binding_of self.now.declarations.now) (com_at self.now.nodes.now row) (registers_of pool.bits) code.old.at) }
     {
         match self.command(row) {
             Command::Skip => code.put(Operation::Nop, 0, 0, 0),

@@ -23,6 +23,7 @@ use crate::pool::Pool;
 use crate::tables::Tables;
 use instruction::Operation;
 use refusal::Refusal;
+use rule::NODE_WORDS;
 
 // What is returned of a rule that is accepted.
 #[derive(Clone, Copy, Debug, PartialEq, Eq)]
@@ -88,7 +89,7 @@ fn generate(tables: &Tables, cells: u32, pool: Pool, code: &mut [u32]) -> Result
     ensures answer { compile_said result ≡ said_as (instructions_of tables.now.declarations.now tables.now.nodes.now) cells (need_of tables.now.declarations.now tables.now.nodes.now) (rest tables.now.declarations.now tables.now.nodes.now pool.bits (length code.old)) }
     ensures buffer { code.new ≡ buffer_as (assemble (t_prog (binding_of tables.now.declarations.now) (program tables.now.nodes.now) (registers_of pool.bits))) code.old (compile_said result) }
 {
-    let row = tables.nodes.len() / 4 - 1;
+    let row = tables.nodes.len() / NODE_WORDS - 1;
     let need = tables.need_com(row);
     check_registers(need, pool)?;
     let instructions = tables.size_com(row) + 1;

@@ -5,7 +5,7 @@ ghost use Rattle.rule.specs.Kind.{expression, command, expression_said, command_
 ghost use Rattle.rule.specs.Table.{declaration_rows, sort, binding_of, word as word_of, kind_at};
 ghost use Rattle.compiler.specs.Inside.{Rows, Rows-prop, Based, Based-prop, ExpRow, ComRow, class_at};
 
-use rule::{Command, Expression, Kind, Sort};
+use rule::{Command, DECLARATION_LIMIT, DECLARATION_WORDS, Expression, Kind, NODE_WORDS, Sort};
 
 // The tables of a rule that passed its checks, with each declaration's first cell. Rows name each other by number, as a C program lends them:
 // nothing is allocated.
@@ -13,7 +13,7 @@ use rule::{Command, Expression, Kind, Sort};
 pub(crate) struct Tables<'a> {
     pub(crate) declarations: &'a [u32],
     pub(crate) nodes: &'a [u32],
-    pub(crate) bases: &'a [u32; 256],
+    pub(crate) bases: &'a [u32; DECLARATION_LIMIT],
     ghost rows: { Rows declarations.now nodes.now } by { Rows-prop declarations.now nodes.now },
     ghost based: { Based declarations.now bases.now } by { Based-prop declarations.now bases.now },
 }
@@ -24,7 +24,7 @@ impl Tables<'_> {
         requires { row * 4 + k < length self.now.nodes.now }
         ensures { result ≡ word_of self.now.nodes.now row k }
     {
-        self.nodes[row * 4 + k]
+        self.nodes[row * NODE_WORDS + k]
     }
 
     // Word k of a row, which names a declaration.
@@ -32,7 +32,7 @@ impl Tables<'_> {
         requires { row * 4 + k < length self.now.nodes.now }
         ensures { result ≡ word_of self.now.nodes.now row k }
     {
-        self.nodes[row * 4 + k] as usize
+        self.nodes[row * NODE_WORDS + k] as usize
     }
 
     // The kind of an expression's row.
@@ -66,7 +66,7 @@ impl Tables<'_> {
         ensures below { result < row }
         ensures exp_row { ExpRow self.now.nodes.now result }
     {
-        self.nodes[row * 4 + k] as usize
+        self.link(row, k)
     }
 
     // The row of the command that word k of a row names.
@@ -78,7 +78,7 @@ impl Tables<'_> {
         ensures below { result < row }
         ensures com_row { ComRow self.now.nodes.now result }
     {
-        self.nodes[row * 4 + k] as usize
+        self.link(row, k)
     }
 
     // The value of a constant.
@@ -87,8 +87,8 @@ impl Tables<'_> {
         requires { x < declaration_rows self.now.declarations.now }
         ensures { MatchOption result (sort self.now.declarations.now x ≢ 1) (λ v. binding_of self.now.declarations.now x ≡ constant v) }
     {
-        if self.declarations[x * 2] == u32::from(Sort::Constant) {
-            Some(self.declarations[x * 2 + 1])
+        if self.declarations[x * DECLARATION_WORDS] == u32::from(Sort::Constant) {
+            Some(self.declarations[x * DECLARATION_WORDS + 1])
         } else {
             None
         }

@@ -47,6 +47,7 @@ pub(crate) fn declared() -> [[u32; DECLARATION_WORDS]; 4] {
 }
 
 // The row of an expression, which uses two words at most.
+// `settled` has a function like it: the crate that both programs share, `wording`, is about words.
 fn expression(kind: Expression, a: u32, b: u32) -> [u32; NODE_WORDS] {
     [u32::from(Kind::Expression(kind)), a, b, 0]
 }

@@ -18,14 +18,16 @@ const POOL: u64 = 0xff << 40;
 
 const SMALL_POOL: u64 = 0x3f << 40;
 
-// Room for so many instructions: for their words, and for their lines, none of which has more than 33 bytes.
+// Room for so many instructions: for their words, and for their lines, each of which has at most so many bytes.
 const ROOM: usize = 16;
 
 const INSTRUCTION_WORDS: usize = 4;
 
 const WORDS: usize = ROOM * INSTRUCTION_WORDS;
 
-const BYTES: usize = ROOM * 33;
+const LINE_BYTES: usize = 33;
+
+const BYTES: usize = ROOM * LINE_BYTES;
 
 // The budget of a whole run, and of each slice of one, of which there are at most so many.
 const BUDGET: u32 = 100;
@@ -45,11 +47,8 @@ fn show_declarations(rt: &impl Print) -> io::Result<()> {
     };
     println!(rt; "Declarations, where a variable has a cell of memory:")?;
     for (row, declaration) in DECLARATIONS.iter().enumerate() {
-        let declared = Declared {
-            declaration: *declaration,
-            cell: layout.bases[row],
-        };
-        println!(rt; "    {row:>2}  {declared}")?;
+        let declared = Declared::new(*declaration, layout.bases[row]);
+        println!(rt; "    {row:>2}  {:<7}  {declared}", declaration.name)?;
     }
     println!(rt)
 }
@@ -59,13 +58,13 @@ fn front<T>(items: &[T], count: usize) -> &[T] {
     &items[..count.min(items.len())]
 }
 
-// The rule that sets a name, compiled with a pool, and what came of it. The code is handed back, nothing of a refused rule.
+// The rule that sets a name, compiled with a pool, and what came of it. The code is handed back, none of a refused rule.
 fn compiled<'a>(
     rt: &impl Print,
     name: u32,
     pool: u64,
     buffer: &'a mut [u32; WORDS],
-) -> io::Result<&'a [u32]> {
+) -> io::Result<Option<&'a [u32]>> {
     let nodes = rule_of(name);
     let answer = compiler::compile(
         declared().as_flattened(),
@@ -74,8 +73,11 @@ fn compiled<'a>(
         buffer,
     );
     println!(rt; "Pool{}: {}", PoolWords(pool), Compiled { answer, pool })?;
-    let instructions = answer.map_or(0, |accepted| accepted.instructions);
-    Ok(front(buffer, instructions as usize * INSTRUCTION_WORDS))
+    let Ok(accepted) = answer else {
+        return Ok(None);
+    };
+    let words = accepted.instructions as usize * INSTRUCTION_WORDS;
+    Ok(Some(front(buffer, words)))
 }
 
 // The listing of a code that fits the buffer.
@@ -156,7 +158,9 @@ fn accepted(rt: &impl Print) -> io::Result<()> {
     println!(rt; "cutover := local - (hours * 3600 + minutes * 60)\n")?;
     show_declarations(rt)?;
     let mut buffer = [0; WORDS];
-    let code = compiled(rt, CUTOVER, POOL, &mut buffer)?;
+    let Some(code) = compiled(rt, CUTOVER, POOL, &mut buffer)? else {
+        return Ok(());
+    };
     show_listing(rt, code)?;
     whole(rt, code)?;
     slices(rt, code)
@@ -172,6 +176,7 @@ fn refused(rt: &impl Print) -> io::Result<()> {
     Ok(())
 }
 
+// The accepted rule with its runs, then the refused ones.
 fn main(rt: HostRuntime) -> io::Result<()> {
     accepted(&rt)?;
     refused(&rt)

@@ -5,17 +5,20 @@ use refusal::Refusal;
 use std::fmt;
 use wording::{Counted, RunWords};
 
-// A refusal, and the pool that was lent, 0 where none was.
+// A refusal, and the pool that was lent, where one was.
 #[derive(Clone, Copy)]
 pub(crate) struct Refused {
     refusal: Refusal,
-    pool: u64,
+    pool: Option<u64>,
 }
 
 // A refusal where no pool was lent.
 impl From<Refusal> for Refused {
     fn from(refusal: Refusal) -> Refused {
-        Refused { refusal, pool: 0 }
+        Refused {
+            refusal,
+            pool: None,
+        }
     }
 }
 
@@ -33,7 +36,10 @@ impl fmt::Display for Refused {
             | Refusal::NamedKind(row)
             | Refusal::Uses(row) => write!(f, ", row {row}")?,
             Refusal::Registers(need) => {
-                write!(f, ", needed {need}, in the pool {}", pool.count_ones())?
+                write!(f, ", needed {need}")?;
+                if let Some(pool) = pool {
+                    write!(f, ", in the pool {}", pool.count_ones())?
+                }
             }
             Refusal::Room(instructions) => {
                 write!(f, ", needed {}", Counted(instructions, "instruction"))?
@@ -55,7 +61,6 @@ pub(crate) struct Compiled {
 
 impl fmt::Display for Compiled {
     fn fmt<W: fmt::Write>(&self, f: &mut fmt::Formatter<W>) -> fmt::Result {
-        let pool = self.pool;
         match self.answer {
             Ok(accepted) => write!(
                 f,
@@ -64,7 +69,10 @@ impl fmt::Display for Compiled {
                 Counted(accepted.cells, "cell"),
                 Counted(accepted.need, "register"),
             ),
-            Err(refusal) => write!(f, "{}", Refused { refusal, pool }),
+            Err(refusal) => {
+                let pool = Some(self.pool);
+                write!(f, "{}", Refused { refusal, pool })
+            }
         }
     }
 }

@@ -4,21 +4,31 @@ use rule::Sort;
 use std::fmt;
 use wording::SignedWords;
 
-// A declaration, and the first cell that it has, if it has one: "local    variable, cell 0".
+// What a name is declared as: a constant by its value, a variable by its cell, an array by its first cell.
 #[derive(Clone, Copy)]
-pub(crate) struct Declared {
-    pub(crate) declaration: Declaration,
-    pub(crate) cell: u32,
+pub(crate) enum Declared {
+    Constant(u32),
+    Variable(u32),
+    Array(u32),
+}
+
+impl Declared {
+    // The declaration, with the base that the layout has at its row.
+    pub(crate) fn new(declaration: Declaration, base: u32) -> Declared {
+        match declaration.sort {
+            Sort::Constant => Declared::Constant(declaration.value),
+            Sort::Variable => Declared::Variable(base),
+            Sort::Array => Declared::Array(base),
+        }
+    }
 }
 
 impl fmt::Display for Declared {
     fn fmt<W: fmt::Write>(&self, f: &mut fmt::Formatter<W>) -> fmt::Result {
-        let Declaration { name, sort, value } = self.declaration;
-        write!(f, "{name:<7}  ")?;
-        match sort {
-            Sort::Constant => write!(f, "constant {}", value.cast_signed()),
-            Sort::Variable => write!(f, "variable, cell {}", self.cell),
-            Sort::Array => write!(f, "array from cell {}", self.cell),
+        match *self {
+            Declared::Constant(value) => write!(f, "constant {}", value.cast_signed()),
+            Declared::Variable(cell) => write!(f, "variable, cell {cell}"),
+            Declared::Array(cell) => write!(f, "array from cell {cell}"),
         }
     }
 }

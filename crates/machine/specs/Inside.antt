@@ -16,6 +16,7 @@ abbrev pub Register : ℕ → Type 0
 Register r = r < 64
 
 -- a run clears place 0 of the registers, so that $0 reads as 0
+-- `Cleared` and `Few` are asked of each function and are no field of a struct: registers and memory are lent by reference, and a struct that holds a `&mut` would promise its reference at each step; no plainer
 abbrev pub Cleared : List ℕ → Type 0
 Cleared g = slice_index g 0 ≡ 0
 

@@ -38,7 +38,7 @@ enum Move {
 }
 
 // How a run ends.
-// A fault is told by its number: the theorems and the C interface say it so, and may not change.
+// A fault is told by its number: `code_faults_with_4` (correctness/proofs/Headline.antt) and the C interface (`ending_answered`) say it so.
 #[derive(Clone, Copy, Debug, PartialEq, Eq)]
 pub enum Ending {
     Halted,
@@ -54,6 +54,7 @@ pub struct Ended {
 }
 
 // How a single step went.
+// A fault is told by its number, as in `Ending`: the C interface (`answered`, sauskinna/specs/Words.antt) says it so.
 #[derive(Clone, Copy, Debug, PartialEq, Eq)]
 pub enum Taken {
     Went,
@@ -105,6 +106,7 @@ fn stopped(ending: Ending, left: usize, place: usize) -> Stop
 // A run from a place under a budget: the one caller of `advance`, so that the step is part of the loop.
 // The budget that is left is limit - place, so that a step on to the next place changes the place alone; a jump takes the limit along.
 // The loop stops at the limit or at the end of the code, whichever comes first.
+// Five parameters: code, registers and memory are lent apart, as the C interface lends them.
 fn proceed(
     code: &[u32],
     from: usize,

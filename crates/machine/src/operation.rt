@@ -142,7 +142,8 @@ fn store(registers: &[u32; 64], memory: &mut [u32], instruction: Instruction) ->
     }
 }
 
-// An instruction of a code of count instructions. A match and no table of functions: a step would take a call through a pointer more.
+// An instruction of a code of count instructions.
+// A match: a table of functions is no plainer, for their parameters differ (they take registers alone, memory too, or the number of instructions).
 #[tactic(auto, unfolding(crate::specs::Step::perform, instruction::specs::Instruction::operation_of, instruction::specs::Instruction::operations))]
 pub(crate) fn perform(
     count: usize,

@@ -2,9 +2,6 @@
 ghost use Rattle.std.specs.Prelude.{◌≡◌};
 ghost use Rattle.rule.specs.Kind.{Decodes, kind_number, DecodesSort, sort_number};
 
-use std::error::Error;
-use std::fmt;
-
 // What a binary expression does with its two operands.
 #[derive(Clone, Copy, Debug, PartialEq, Eq)]
 pub enum Operator {
@@ -106,14 +103,6 @@ impl From<Kind> for u32 {
     }
 }
 
-impl fmt::Display for UnknownKind {
-    fn fmt<W: fmt::Write>(&self, f: &mut fmt::Formatter<W>) -> fmt::Result {
-        write!(f, "no node row is of kind {}", self.0)
-    }
-}
-
-impl Error for UnknownKind {}
-
 // The sort of a declaration.
 #[derive(Clone, Copy, Debug, PartialEq, Eq)]
 pub enum Sort {
@@ -154,11 +143,3 @@ impl From<Sort> for u32 {
         }
     }
 }
-
-impl fmt::Display for UnknownSort {
-    fn fmt<W: fmt::Write>(&self, f: &mut fmt::Formatter<W>) -> fmt::Result {
-        write!(f, "no declaration is of kind {}", self.0)
-    }
-}
-
-impl Error for UnknownSort {}

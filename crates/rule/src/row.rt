@@ -69,6 +69,7 @@ impl Row<'_> {
     }
 
     // Refusals 6 to 9 of one word, by what it is. It becomes part of each arm of the tables below, so that a row takes one jump.
+    // Read first as three classes, and then checked, a row took 1.1 to 1.3 times as long.
     #[inline(always)]
     fn check_word(&self, class: Class, w: u32, marks: &mut [Mark; ROW_LIMIT]) -> Result<(), Fault>
         ensures refusal { no_of result ≡ word_found self.now (class_said class) w }

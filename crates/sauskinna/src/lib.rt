@@ -94,6 +94,7 @@ pub extern "C" fn sauskinna_compile(
 }
 
 // Runs from the place and the registers lent, under a budget. Answers the ending, the fault's number or 0, and the steps taken.
+#[tactic(auto, using(crate::proofs::Told::run_told))]
 #[unsafe(no_mangle)]
 pub extern "C" fn sauskinna_run(
     code: &[u32],
@@ -105,16 +106,8 @@ pub extern "C" fn sauskinna_run(
 ) -> u32
     ensures { left result answer.new (state_of place.new registers.new) memory.new ≡ in_words (run_entry code.now memory.old (state_of place.old registers.old) budget) }
 {
-    match machine::run_in_place(code, memory, place, registers, budget) {
-        Ok(ended) => {
-            *answer = words_of_run(ended);
-            ACCEPTED
-        }
-        Err(refusal) => {
-            *answer = [0, 0, 0];
-            refusal.number()
-        }
-    }
+    let said = machine::run_in_place(code, memory, place, registers, budget);
+    tell(answer, said, words_of_run)
 }
 
 // Writes the listing of the code over the front of the text. Answers the bytes written; at a refusal the value returned.

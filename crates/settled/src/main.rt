@@ -45,23 +45,25 @@ impl<'a> Example<'a> {
         Example { name, nodes, pool }
     }
 
-    // The rule is compiled and its line printed. The code is handed back, nothing of a refused rule.
+    // The rule is compiled and its line printed. The code is handed back, none of a refused rule.
     fn compiled_over<'b>(
         self,
         rt: &impl Print,
         declarations: &[[u32; DECLARATION_WORDS]],
         buffer: &'b mut [u32],
-    ) -> io::Result<&'b [u32]> {
+    ) -> io::Result<Option<&'b [u32]>> {
         let nodes = self.nodes.as_flattened();
         let answer = compiler::compile(declarations.as_flattened(), nodes, self.pool, buffer);
         println!(rt; "{}: {}", self.name, Compiled(answer))?;
-        let instructions = answer.map_or(0, |accepted| accepted.instructions);
-        let words = instructions as usize * INSTRUCTION_WORDS;
-        Ok(&buffer[..words.min(buffer.len())])
+        let Ok(accepted) = answer else {
+            return Ok(None);
+        };
+        let words = accepted.instructions as usize * INSTRUCTION_WORDS;
+        Ok(Some(&buffer[..words.min(buffer.len())]))
     }
 
     // The same over one variable, x.
-    fn compiled<'b>(self, rt: &impl Print, buffer: &'b mut [u32]) -> io::Result<&'b [u32]> {
+    fn compiled<'b>(self, rt: &impl Print, buffer: &'b mut [u32]) -> io::Result<Option<&'b [u32]>> {
         self.compiled_over(rt, &[[u32::from(Sort::Variable), 0]], buffer)
     }
 }
@@ -113,7 +115,10 @@ fn assign(rt: &impl Print) -> io::Result<()> {
         command(Command::Assign, 0, 0, 0),
     ];
     let mut buffer = [0; ROOM];
-    let code = Example::new("x := 2, pool 1-2", &nodes, POOL_1_2).compiled(rt, &mut buffer)?;
+    let example = Example::new("x := 2, pool 1-2", &nodes, POOL_1_2);
+    let Some(code) = example.compiled(rt, &mut buffer)? else {
+        return Ok(());
+    };
     println!(rt; "  code:{}", Code(code))?;
     for budget in 2..5 {
         run_with(rt, code, 0, budget)?;
@@ -137,7 +142,9 @@ fn nested(rt: &impl Print) -> io::Result<()> {
     ];
     let mut buffer = [0; ROOM];
     let example = Example::new("x := 9 - (5 - 2), pool 1-5", &nodes, POOL_1_5);
-    let code = example.compiled(rt, &mut buffer)?;
+    let Some(code) = example.compiled(rt, &mut buffer)? else {
+        return Ok(());
+    };
     println!(rt; "  code:{}", Code(code))?;
     run_with(rt, code, 0, 8)?;
     let narrower = Example::new("x := 9 - (5 - 2), pool 1-4", &nodes, POOL_1_4);
@@ -153,7 +160,10 @@ fn not(rt: &impl Print) -> io::Result<()> {
         command(Command::Assign, 0, 1, 0),
     ];
     let mut buffer = [0; ROOM];
-    let code = Example::new("x := not 0, pool 1-2", &nodes, POOL_1_2).compiled(rt, &mut buffer)?;
+    let example = Example::new("x := not 0, pool 1-2", &nodes, POOL_1_2);
+    let Some(code) = example.compiled(rt, &mut buffer)? else {
+        return Ok(());
+    };
     run_with(rt, code, 0, 5)?;
     run_with(rt, code, 0, 6)
 }
@@ -162,7 +172,10 @@ fn not(rt: &impl Print) -> io::Result<()> {
 fn skip(rt: &impl Print) -> io::Result<()> {
     let nodes = [command(Command::Skip, 0, 0, 0)];
     let mut buffer = [0; ROOM];
-    let code = Example::new("skip, pool empty", &nodes, 0).compiled(rt, &mut buffer)?;
+    let example = Example::new("skip, pool empty", &nodes, 0);
+    let Some(code) = example.compiled(rt, &mut buffer)? else {
+        return Ok(());
+    };
     println!(rt; "  code:{}", Code(code))?;
     run_with(rt, code, 0, 2)
 }
@@ -176,7 +189,9 @@ fn repeat(rt: &impl Print) -> io::Result<()> {
     ];
     let example = Example::new("while x do skip, pool 1-2", &nodes, POOL_1_2);
     let mut buffer = [0; ROOM];
-    let code = example.compiled(rt, &mut buffer)?;
+    let Some(code) = example.compiled(rt, &mut buffer)? else {
+        return Ok(());
+    };
     run_with(rt, code, 0, 4)?;
     run_with(rt, code, 1, 5)?;
     run_with(rt, code, 1, 10)
@@ -198,7 +213,10 @@ fn cells(rt: &impl Print) -> io::Result<()> {
 fn deep_sequences(rt: &impl Print, name: &str, nested: Nested) -> io::Result<()> {
     let nodes = table::sequences(nested);
     let mut buffer = [0; DEEP_ROOM];
-    let code = Example::new(name, &nodes, POOL_1_2).compiled(rt, &mut buffer)?;
+    let example = Example::new(name, &nodes, POOL_1_2);
+    let Some(code) = example.compiled(rt, &mut buffer)? else {
+        return Ok(());
+    };
     run_with(rt, code, 0, 2000)
 }
 
@@ -208,7 +226,9 @@ fn deep_ifs(rt: &impl Print) -> io::Result<()> {
     let (taken, _) = nodes.split_at(rule::ROW_LIMIT);
     let example = Example::new("341 ifs nested, 1,024 rows", taken, POOL_1);
     let mut buffer = [0; DEEP_ROOM];
-    let code = example.compiled(rt, &mut buffer)?;
+    let Some(code) = example.compiled(rt, &mut buffer)? else {
+        return Ok(());
+    };
     run_with(rt, code, 0, 2000)?;
     Example::new("1,025 rows", &nodes, POOL_1).compiled(rt, &mut buffer)?;
     Ok(())
@@ -222,6 +242,7 @@ fn deep_nots(rt: &impl Print) -> io::Result<()> {
     Ok(())
 }
 
+// All the examples, in the order of their lines.
 fn main(rt: HostRuntime) -> io::Result<()> {
     assign(&rt)?;
     nested(&rt)?;

@@ -51,22 +51,22 @@ impl Single {
     }
 }
 
-// Signed order, exact addresses, and the label of a branch outside the code.
-pub(crate) fn steps(rt: &impl Print) -> io::Result<()> {
+// Signed order.
+fn order(rt: &impl Print) -> io::Result<()> {
     let slt = Single {
         name: "slt $3 $1 $2",
         words: words(Operation::Slt, 3, 1, 2),
     };
+    let less = slt.step(rt, -1, 0)?;
+    println!(rt; ", $3 = {less}")
+}
+
+// Exact addresses: the sum of base and index is not wrapped.
+fn addresses(rt: &impl Print) -> io::Result<()> {
     let load = Single {
         name: "load $3 $1[$2] of cells 70 71",
         words: words(Operation::Load, 3, 1, 2),
     };
-    let beq = Single {
-        name: "beq $1 $2 99 in a code of 2",
-        words: words(Operation::Beq, 1, 2, 99),
-    };
-    let less = slt.step(rt, -1, 0)?;
-    println!(rt; ", $3 = {less}")?;
     for (base, index) in [
         (i32::MAX, 1),
         (65535, -65535),
@@ -76,9 +76,25 @@ pub(crate) fn steps(rt: &impl Print) -> io::Result<()> {
         let loaded = load.step(rt, base, index)?;
         println!(rt; ", $3 = {loaded}")?;
     }
+    Ok(())
+}
+
+// The label of a branch outside the code: read only where the branch is taken.
+fn branches(rt: &impl Print) -> io::Result<()> {
+    let beq = Single {
+        name: "beq $1 $2 99 in a code of 2",
+        words: words(Operation::Beq, 1, 2, 99),
+    };
     for a in [0, 1] {
         beq.step(rt, a, 1)?;
         println!(rt)?;
     }
     Ok(())
+}
+
+// Signed order, exact addresses, and the label of a branch outside the code.
+pub(crate) fn steps(rt: &impl Print) -> io::Result<()> {
+    order(rt)?;
+    addresses(rt)?;
+    branches(rt)
 }

@@ -1,5 +1,5 @@
 // Tables of nodes, a row of four words each: the deepest of 1,023 and 1,024 rows.
-use rule::{Command, Expression, Kind, NODE_WORDS};
+use rule::{Command, Expression, Kind, NODE_WORDS, ROW_LIMIT};
 
 // A kind and three words, 0 where they are not used.
 pub(crate) type Row = [u32; NODE_WORDS];
@@ -33,8 +33,8 @@ pub(crate) enum Nested {
 }
 
 // x := 7 and 511 skips in 511 sequences, 1,024 rows.
-pub(crate) fn sequences(nested: Nested) -> [Row; 1024] {
-    let mut nodes = [command(Command::Skip, 0, 0, 0); 1024];
+pub(crate) fn sequences(nested: Nested) -> [Row; ROW_LIMIT] {
+    let mut nodes = [command(Command::Skip, 0, 0, 0); ROW_LIMIT];
     nodes[0] = expression(Expression::Value, 7, 0);
     nodes[1] = command(Command::Assign, 0, 0, 0);
     for turn in 1..512 {
@@ -48,8 +48,8 @@ pub(crate) fn sequences(nested: Nested) -> [Row; 1024] {
 }
 
 // 341 ifs, 1,024 rows, and a row more than is taken. What came before is the then part of each, whose test is true.
-pub(crate) fn ifs() -> [Row; 1025] {
-    let mut nodes = [command(Command::Skip, 0, 0, 0); 1025];
+pub(crate) fn ifs() -> [Row; ROW_LIMIT + 1] {
+    let mut nodes = [command(Command::Skip, 0, 0, 0); ROW_LIMIT + 1];
     for turn in 0..341 {
         let test = 3 * turn + 1;
         nodes[test as usize] = expression(Expression::Value, 1, 0);
