@@ -95,7 +95,8 @@ impl Tables<'_> {
         code.emit_store(self.base(self.link(row, 1)), 0, t, rest);
     }
 
-    // Assign element: a row of that kind.
+    // Assign element: a row of that kind. Apart from `emit_assign`, which has no operand for the index: one function for both would ask for the kind
+    // again, and be no plainer.
     #[tactic(auto, using(crate::proofs::Emits::emits), unfolding(crate::specs::Compile::need_com, crate::specs::Compile::size_com, crate::specs::Compile::t_com))]
     fn emit_assign_element(&self, row: usize, pool: Pool, code: &mut Code<'_>)
         requires com_row { ComRow self.now.nodes.now row }

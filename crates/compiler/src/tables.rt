@@ -69,7 +69,8 @@ impl Tables<'_> {
         self.link(row, k)
     }
 
-    // The row of the command that word k of a row names.
+    // The row of the command that word k of a row names. Apart from `operand`, since what is known of the row differs: one function for both would
+    // promise a choice, and be no plainer.
     #[tactic(auto, using(crate::proofs::Rows::com_below))]
     pub(crate) fn part(&self, row: usize, k: usize) -> usize
         requires there { row * 4 + 3 < length self.now.nodes.now }

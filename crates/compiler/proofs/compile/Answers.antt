@@ -1,6 +1,6 @@
 -- `compile`: the checks in their order, and past them what the tables give.
 use Rattle.std.proofs.Common.{◌≡◌, refl, sym, ap, ◌∙◌, ℕ, List, length, Result, arith}
-use Rattle.std.specs.Prelude.{Err}
+use Rattle.std.specs.Prelude.{Err, IsErrAnd}
 use Rattle.std.proofs.lemmas.Result.{err_from_is_err_and}
 use Rattle.refusal.specs.declared.Refusal.{Refusal}
 use Rattle.refusal.specs.Refusal.{Passes, number_of, value_of, ◌and_then◌}
@@ -26,10 +26,10 @@ is_ready : (c : In_ok-check_rows) → Ready c.args.declarations.now c.args.nodes
 is_ready c = ready _ _ (sym (words_verdict _ _ _ c.in_ok-check_words.ensures)) (sym (rows_pass c))
 
 -- where a refusal is given, nothing is written
-module _ (ds ns : List ℕ) (pool : ℕ) (code : List ℕ) {a : Result Accepted Refusal} {r : Refusal} (is : a ≡ Err r)
+module _ (ds ns : List ℕ) (pool : ℕ) (code : List ℕ) (a : Result Accepted Refusal) (r : Refusal) (x : IsErrAnd a (λ y. y ≡ r))
     (e : refused (number_of r) (value_of r) ≡ compiled ds ns pool (length code)) where
   refused_answer : compile_said a ≡ compiled ds ns pool (length code)
-  refused_answer = ap compile_said is ∙ e
+  refused_answer = let left = err_from_is_err_and a x in ap compile_said (left.1 ∙ ap Err left.2) ∙ e
 
   refused_buffer : code ≡ leaves ds ns pool code
   refused_buffer = leaves_by ds ns pool code code _ e refl
@@ -39,10 +39,9 @@ returns-in_err-check_words c =
     let ds = c.args.declarations.now in
     let ns = c.args.nodes.now in
     let code = c.args.code.now in
-    let left = err_from_is_err_and c.from_residual.result c.from_residual.ensures.1 in
-    let is = left.1 ∙ ap Err left.2 in
+    let x = c.from_residual.ensures.1 in
     let e = compiled_from ds ns c.args.pool (length code) (words_verdict _ _ _ c.in_err-check_words.ensures) refl refl refl in
-    record { answer = refused_answer ds ns c.args.pool code is e; buffer = refused_buffer ds ns c.args.pool code is e }
+    record { answer = refused_answer ds ns c.args.pool code _ _ x e; buffer = refused_buffer ds ns c.args.pool code _ _ x e }
 
 pub returns-in_err-check_pool : goal.returns-in_err-check_pool
 returns-in_err-check_pool c =
@@ -50,10 +49,9 @@ returns-in_err-check_pool c =
     let ns = c.args.nodes.now in
     let code = c.args.code.now in
     let w = words_pass (goal.at.returns-in_err-check_pool c).In_ok-check_words in
-    let left = err_from_is_err_and c.from_residual-in_err-check_pool.result c.from_residual-in_err-check_pool.ensures.1 in
-    let is = left.1 ∙ ap Err left.2 in
+    let x = c.from_residual-in_err-check_pool.ensures.1 in
     let e = compiled_from ds ns c.args.pool (length code) w c.in_err-check_pool.ensures refl refl in
-    record { answer = refused_answer ds ns c.args.pool code is e; buffer = refused_buffer ds ns c.args.pool code is e }
+    record { answer = refused_answer ds ns c.args.pool code _ _ x e; buffer = refused_buffer ds ns c.args.pool code _ _ x e }
 
 pub returns-in_err-layout : goal.returns-in_err-layout
 returns-in_err-layout c =
@@ -61,10 +59,9 @@ returns-in_err-layout c =
     let ns = c.args.nodes.now in
     let code = c.args.code.now in
     let w = words_pass (goal.at.returns-in_err-layout c).In_ok-check_words in
-    let left = err_from_is_err_and c.from_residual-in_err-layout.result c.from_residual-in_err-layout.ensures.1 in
-    let is = left.1 ∙ ap Err left.2 in
+    let x = c.from_residual-in_err-layout.ensures.1 in
     let e = compiled_from ds ns c.args.pool (length code) w c.in_ok-check_pool.ensures (layout_verdict ds _ c.in_err-layout.ensures) refl in
-    record { answer = refused_answer ds ns c.args.pool code is e; buffer = refused_buffer ds ns c.args.pool code is e }
+    record { answer = refused_answer ds ns c.args.pool code _ _ x e; buffer = refused_buffer ds ns c.args.pool code _ _ x e }
 
 pub returns-in_err-check_rows : goal.returns-in_err-check_rows
 returns-in_err-check_rows c =
@@ -72,12 +69,11 @@ returns-in_err-check_rows c =
     let ns = c.args.nodes.now in
     let code = c.args.code.now in
     let at = goal.at.returns-in_err-check_rows c in
-    let left = err_from_is_err_and c.from_residual-in_err-check_rows.result c.from_residual-in_err-check_rows.ensures.1 in
-    let is = left.1 ∙ ap Err left.2 in
+    let x = c.from_residual-in_err-check_rows.ensures.1 in
     let e =
     compiled_from ds ns c.args.pool (length code) (words_pass at.In_ok-check_words) c.in_ok-check_pool.ensures (declarations_pass at.In_ok-layout)
     (rows_verdict ds ns _ c.in_err-check_rows.ensures) in
-    record { answer = refused_answer ds ns c.args.pool code is e; buffer = refused_buffer ds ns c.args.pool code is e }
+    record { answer = refused_answer ds ns c.args.pool code _ _ x e; buffer = refused_buffer ds ns c.args.pool code _ _ x e }
 
 pub invariant_of-tables : goal.invariant_of-tables
 invariant_of-tables c =
