@@ -23,6 +23,12 @@ one_form_of op r s p q = p ∙ sym q
 pub one_taken : (words : ℕ) (r s : Bool) → r ≡ taken words → s ≡ taken words → r ≡ s
 one_taken words r s p q = p ∙ sym q
 
+pub one_form : (o : Coded) (r s : Form) → r ≡ form_of (operation_of (operation_number o)) → s ≡ form_of (operation_of (operation_number o)) → r ≡ s
+one_form o r s p q = p ∙ sym q
+
+pub one_takes : (o : Coded) (a b c : ℕ) (r s : Bool) → r ≡ formed (ins (operation_number o) a b c) → s ≡ formed (ins (operation_number o) a b c) → r ≡ s
+one_takes o a b c r s p q = p ∙ sym q
+
 -- an operation is known by its number
 pub same_operation : (o p : Coded) → operation_number o ≡ operation_number p → o ≡ p
 same_operation o p e = grind arith

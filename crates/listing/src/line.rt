@@ -35,7 +35,8 @@ impl Line {
     }
 }
 
-// A text that is written from its front, and the place after what is written of it.
+// A text that is written from its front, and the place after what is written of it. All that writes is inlined into the loop over the lines, so that
+// the place stays in a register: read from memory again after each part, it makes a line of few bytes take 1.5 times as long.
 #[derive(Drop)]
 pub(crate) struct Text<'a> {
     pub(crate) bytes: &'a mut [u8],
@@ -44,6 +45,7 @@ pub(crate) struct Text<'a> {
 
 impl<'a> Text<'a> {
     // A run of bytes. One by one: `copy_from_slice` becomes a call of memmove, and the C library asks for memcpy and memset alone.
+    #[inline(always)]
     fn put(&mut self, bytes: &[u8])
         requires { Room self.old bytes.now }
         ensures { Wrote self.old self.new bytes.now }
@@ -57,6 +59,7 @@ impl<'a> Text<'a> {
     }
 
     // A number. By crate decimal: of `write!` a contract says what an Ok has written, and not that it is Ok where there is room.
+    #[inline(always)]
     fn number(&mut self, word: u32)
         requires { Room self.old (numeral word) }
         ensures { Wrote self.old self.new (numeral word) }
@@ -64,8 +67,8 @@ impl<'a> Text<'a> {
         self.at += decimal::write(self.bytes, self.at, word).unwrap();
     }
 
-    // " $1". Inlined, so that a register takes no call: a line takes 0.9 times as long.
-    #[inline]
+    // " $1"
+    #[inline(always)]
     fn register(&mut self, k: u32)
         requires { Room self.old (bytes_of " " ++ register_word k) }
         ensures { Wrote self.old self.new (bytes_of " " ++ register_word k) }
@@ -75,6 +78,7 @@ impl<'a> Text<'a> {
     }
 
     // " L3"
+    #[inline(always)]
     fn target(&mut self, l: u32)
         requires { Room self.old (bytes_of " " ++ label_word l) }
         ensures { Wrote self.old self.new (bytes_of " " ++ label_word l) }
@@ -84,6 +88,7 @@ impl<'a> Text<'a> {
     }
 
     // " $2[$0]"
+    #[inline(always)]
     fn address(&mut self, b: u32, i: u32)
         requires { Room self.old (bytes_of " " ++ address_word b i) }
         ensures { Wrote self.old self.new (bytes_of " " ++ address_word b i) }
@@ -96,6 +101,7 @@ impl<'a> Text<'a> {
 
     // The mnemonic of an operation, written in each arm, where its length is known: handed on as a text it makes a line take 1.1 times as long,
     // one with a label 1.2 times.
+    #[inline(always)]
     fn mnemonic(&mut self, operation: Operation)
         requires { Room self.old (bytes_of (mnemonic_of (operation_of (operation_number operation)))) }
         ensures { Wrote self.old self.new (bytes_of (mnemonic_of (operation_of (operation_number operation)))) }
@@ -117,6 +123,7 @@ impl<'a> Text<'a> {
     }
 
     // The words after the mnemonic, each after a blank.
+    #[inline(always)]
     fn operands(&mut self, instruction: Instruction)
         requires { Room self.old (operands_text instruction) }
         ensures { Wrote self.old self.new (operands_text instruction) }
@@ -154,6 +161,7 @@ impl<'a> Text<'a> {
 
     // "L7: ", of a line that is named.
     #[tactic(auto, using(crate::proofs::Writing::wrote_then))]
+    #[inline(always)]
     fn label(&mut self, named: bool, place: u32)
         requires { Room self.old (label_part named place) }
         ensures { Wrote self.old self.new (label_part named place) }
@@ -167,6 +175,7 @@ impl<'a> Text<'a> {
 
     // A line.
     #[tactic(auto, unfolding(crate::specs::Line::instruction_line))]
+    #[inline(always)]
     pub(crate) fn line(&mut self, line: Line)
         requires { Room self.old (line_text line) }
         ensures { Wrote self.old self.new (line_text line) }

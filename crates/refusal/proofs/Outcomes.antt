@@ -1,4 +1,5 @@
 -- The number and what is returned with it leave one refusal, and a verdict one answer of a check.
+-- Assumes nothing.
 use Rattle.std.proofs.Common.{◌≡◌, ℕ, refl, sym, ap, ◌∙◌, Result}
 use Rattle.std.specs.Prelude.{Ok, Err, ⊤, List, [], ◌∷◌, get_or}
 use Rattle.refusal.specs.declared.Refusal.{Refusal}
@@ -56,6 +57,12 @@ refusal_back (R.TextRoom needed) = refl
 
 pub one_refusal : (r s : Refusal) → number_of r ≡ number_of s → value_of r ≡ value_of s → r ≡ s
 one_refusal r s p q = sym (refusal_back r) ∙ ap (λ (n : ℕ). refusal_of n (value_of r)) p ∙ ap (refusal_of (number_of s)) q ∙ refusal_back s
+
+pub one_refusal_number : (r : Refusal) (m n : ℕ) → m ≡ number_of r → n ≡ number_of r → m ≡ n
+one_refusal_number r m n p q = p ∙ sym q
+
+pub one_refusal_value : (r : Refusal) (m n : ℕ) → m ≡ value_of r → n ≡ value_of r → m ≡ n
+one_refusal_value r m n p q = p ∙ sym q
 
 -- the answer of a check, of a verdict
 abbrev check_of : Verdict → Result ⊤ Refusal

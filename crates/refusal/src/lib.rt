@@ -1,8 +1,9 @@
 // The numbered refusals: why a check refuses, and what every entry point and every check answers by where it does.
 #![tactic(auto)]
 
-ghost use Rattle.std.specs.Prelude.{◌≡◌};
+ghost use Rattle.std.specs.Prelude.{◌≡◌, Some};
 ghost use Rattle.refusal.specs.Refusal.{number_of, value_of};
+ghost use Rattle.refusal.specs.Words.{words_of};
 
 use std::error::Error;
 use std::fmt;
@@ -77,7 +78,10 @@ impl Refusal {
     }
 }
 
+// What is wrong, in words. The row, the need, the count or the place is not among them: who shows a refusal says where it goes.
 impl fmt::Display for Refusal {
+    ghost output = { λ refusal. Some (words_of refusal) };
+
     fn fmt<W: fmt::Write>(&self, f: &mut fmt::Formatter<W>) -> fmt::Result {
         f.write_str(match self {
             Refusal::NodeWords => "the table of nodes is empty, too long, or ends within a row",

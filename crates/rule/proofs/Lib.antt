@@ -1,5 +1,6 @@
 pub mod Verdicts
 pub mod Scans
+pub mod Sorts
 pub mod Reading
 pub mod Cells
 pub mod Outcomes

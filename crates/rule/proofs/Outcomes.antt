@@ -3,11 +3,17 @@
 use mathlib.Core.Path.{◌≡◌, refl, sym, ap, ap₂, ◌∙◌}
 use mathlib.Core.List.{List}
 use Prim.Native.Nat.{ℕ}
+use native.Mathlib.Omega.{arith}
 use Rattle.std.specs.Prelude.{⊤, Result, Ok, Err}
 use Rattle.refusal.specs.declared.Refusal.{Refusal}
 use Rattle.refusal.specs.Refusal.{number_of, value_of}
 use Rattle.refusal.proofs.Outcomes.{one_refusal}
 use Rattle.rule.specs.declared.layout.Layout.{Layout}
+use Rattle.rule.specs.declared.kind.Kind.{Kind}
+use Rattle.rule.specs.declared.kind.UnknownKind.{UnknownKind}
+use Rattle.rule.specs.declared.kind.Sort.{Sort}
+use Rattle.rule.specs.declared.kind.UnknownSort.{UnknownSort}
+use Rattle.rule.specs.Kind.{unknown, row_said, kind_number, Decodes, sort_number, DecodesSort}
 use Rattle.rule.specs.Answer.{Said, passed, accepted, refused, verdict_said, check_said, words_checked, rows_checked, checked}
 use Rattle.rule.specs.Layout.{Laid, laid_said, layout_of}
 
@@ -58,3 +64,27 @@ module _ (ds ns : List ℕ) where
 
   pub one_check : (a b : Result ℕ Refusal) → check_said a ≡ checked ds ns → check_said b ≡ checked ds ns → a ≡ b
   one_check a b p q = one_answer a b (p ∙ sym q)
+
+-- Kinds and sorts, read from their numbers and given back by them
+
+-- a kind is known by what it is called in specs, a sort by its number
+same_kind : (k l : Kind) → row_said k ≡ row_said l → k ≡ l
+same_kind k l e = grind arith
+
+known_kind : (k : Kind) → row_said k ≡ unknown → ⊥
+known_kind k e = grind arith
+
+same_sort : (s t : Sort) → sort_number s ≡ sort_number t → s ≡ t
+same_sort s t e = grind arith
+
+pub one_kind : (n : ℕ) (r s : Result Kind UnknownKind) → Decodes n r → Decodes n s → r ≡ s
+one_kind n r s p q = grind (arith, same_kind, known_kind)
+
+pub one_kind_number : (k : Kind) (m n : ℕ) → m ≡ kind_number k → n ≡ kind_number k → m ≡ n
+one_kind_number k m n p q = p ∙ sym q
+
+pub one_sort : (n : ℕ) (r s : Result Sort UnknownSort) → DecodesSort n r → DecodesSort n s → r ≡ s
+one_sort n r s p q = grind (arith, same_sort)
+
+pub one_sort_number : (s : Sort) (m n : ℕ) → m ≡ sort_number s → n ≡ sort_number s → m ≡ n
+one_sort_number s m n p q = p ∙ sym q

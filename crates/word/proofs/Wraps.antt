@@ -1,10 +1,11 @@
 -- The wrapping operations of the processor give the word of the exact result.
 -- Assumes nothing.
-use Rattle.std.proofs.Common.{◌≡◌, ℕ, ◌+◌, ◌-◌, ◌*◌, ◌%◌, ◌<◌, ◌≤◌, Bool, true, false, ltb, ℤ, pos, negsuc, ◌+ℤ◌, ◌-ℤ◌, ◌*ℤ◌, sym, refl, ap, ap₂, ◌∙◌, arith, ltb-false, ltb-true}
+use Rattle.std.proofs.Common.{◌≡◌, ℕ, ◌+◌, ◌-◌, ◌*◌, ◌%◌, ◌<◌, ◌≤◌, Bool, true, false, ltb, ℤ, pos, negsuc, ◌+ℤ◌, ◌-ℤ◌, ◌*ℤ◌, sym, refl, ap, ap₂, ◌∙◌, arith, ltb-false, ltb-true, le-ltb, lt-ltb, zero, suc}
 use Rattle.std.proofs.lemmas.Int.{of_z-to_z, wrapping_add-bits, wrapping_sub-bits, wrapping_mul-bits}
 use Rattle.std.specs.Int.{w32, cast_signed, cast_unsigned, int_wrap}
 use lib.IntN.{sub_ℕ}
 use Rattle.word.specs.Word.{Word, signed, word_of, sum_of, difference_of, product_of}
+use Rattle.word.proofs.Biased.{sub_shift}
 use Rattle.word.proofs.Signed.{cast_signed_is_signed}
 
 word_is_word : (z : ℤ) → Word (word_of z)
@@ -50,3 +51,12 @@ wrap_sub x y hy = go (ltb x y) refl
     go : (t : Bool) → ltb x y ≡ t → word_of (sub_ℕ x y) ≡ (x + (4294967296 - y)) % 4294967296
     go true e = let k = ltb-true x y e in rw e (omega arith)
     go false e = let k = ltb-false x y e in rw e (omega arith)
+
+-- a number taken from one that is not negative, and from one that is
+pub pos_minus : (a b : ℕ) → pos a -ℤ pos b ≡ sub_ℕ a b
+pos_minus a zero = rw (le-ltb a 0 (omega arith)) (ap pos (omega arith))
+pos_minus a (suc n) = refl
+
+pub neg_minus : (m b : ℕ) → negsuc m -ℤ pos b ≡ sub_ℕ 0 (suc m + b)
+neg_minus m zero = sub_shift 0 (suc m) 0 (suc m + 0) (omega arith)
+neg_minus m (suc n) = rw (lt-ltb 0 (suc m + suc n) (omega arith)) (ap negsuc (omega arith))
