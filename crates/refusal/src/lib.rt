@@ -3,7 +3,7 @@
 
 ghost use Rattle.std.specs.Prelude.{◌≡◌, Some};
 ghost use Rattle.refusal.specs.Refusal.{number_of, value_of};
-ghost use Rattle.refusal.specs.Words.{words_of};
+ghost use Rattle.refusal.specs.Words.{refusal_words};
 
 use std::error::Error;
 use std::fmt;
@@ -78,9 +78,9 @@ impl Refusal {
     }
 }
 
-// What is wrong, in words. The row, the need, the count or the place is not among them: who shows a refusal says where it goes.
+// What is wrong, in words. What is returned with a refusal is not among them: the programs tell it beside them.
 impl fmt::Display for Refusal {
-    ghost output = { λ refusal. Some (words_of refusal) };
+    ghost output = { λ refusal. Some (refusal_words refusal) };
 
     fn fmt<W: fmt::Write>(&self, f: &mut fmt::Formatter<W>) -> fmt::Result {
         f.write_str(match self {
